@@ -45,24 +45,23 @@ WEIGHTS = {
 # What `use` lines bring in for coders of one's own.
 NEEDED = "bitcode::coder::{Buffer, ColumnFree, Decoder, Encoder, HoldsColumns, HoldsData, View}"
 
-ENCODER = """type Held$head = StructEncoder<Fields$life>;
-
-/// The columns of `$simple`.
+# The columns of an encoder, which are those of the encoder that it forwards to.
+HOLDER = """/// The columns of `$simple`.
 #[derive(Drop)]
 pub struct ${simple}Encoder {
-    fields: Held$still,
+    fields: $held,
 }
 
 impl HoldsColumns for ${simple}Encoder {
-    ghost columns = { λ e. ⟦<Held$still as HoldsColumns>⟧.columns e.fields };
+    ghost columns = { λ e. ⟦<$held as HoldsColumns>⟧.columns e.fields };
 
-    ghost room = { λ e. ⟦<Held$still as HoldsColumns>⟧.room e.fields };
+    ghost room = { λ e. ⟦<$held as HoldsColumns>⟧.room e.fields };
 
-    ghost capacity = { λ e. ⟦<Held$still as HoldsColumns>⟧.capacity e.fields };
+    ghost capacity = { λ e. ⟦<$held as HoldsColumns>⟧.capacity e.fields };
 
-    ghost surely_overflows = { λ e n. SurelyOverflows ⟦<$still_name as Shaped>⟧.data.shape (⟦<Held$still as HoldsColumns>⟧.columns e.fields) n };
+    ghost surely_overflows = { λ e n. SurelyOverflows $shape (⟦<$held as HoldsColumns>⟧.columns e.fields) n };
 
-    ghost overflows = { λ e n. ⟦<Held$still as HoldsColumns>⟧.overflows e.fields n };
+    ghost overflows = { λ e n. ⟦<$held as HoldsColumns>⟧.overflows e.fields n };
 }
 
 impl Buffer for ${simple}Encoder {
@@ -71,7 +70,7 @@ impl Buffer for ${simple}Encoder {
     }
 
     fn reserve(&mut self, n: usize) -> Result<(), Error> {
-        reserve_as::<$still_name, _>(&mut self.fields, n)
+        $reserve(&mut self.fields, n)
     }
 
     fn collect_into(&mut self, out: &mut Vec<u8>) -> Result<(), Error> {
@@ -83,7 +82,8 @@ impl Buffer for ${simple}Encoder {
     }
 }
 
-impl$shaped Encoder<$name> for ${simple}Encoder {
+"""
+ENCODER = """impl$shaped Encoder<$name> for ${simple}Encoder {
     ghost writes_free = { $free };
 
     fn encode(&mut self, t: &$name) -> Result<(), Error> {
@@ -94,7 +94,11 @@ impl$shaped Encoder<$name> for ${simple}Encoder {
         Encoder::<$name>::write_directly(&mut self.fields, t, out)
     }
 
-$each    ghost of_shape = { λ e. refl };
+    fn encode_part_of_each<S, W: Part<S, $name>>(&mut self, items: &[S], which: &W, first: &$name) -> Result<(), Error> {
+        Encoder::<$name>::encode_part_of_each(&mut self.fields, items, which, first)
+    }
+
+    ghost of_shape = { λ e. refl };
 
     ghost surely = { λ e n h. h };
 }
@@ -104,11 +108,30 @@ impl$shaped HasEncoder for $name {
 }
 
 """
-# Writes many values column by column. A struct with more fields than MOST_FIELDS writes them one by one, since the
-# proof of this function stops at the step limit there.
-EACH = """    fn encode_part_of_each<S, W: Part<S, $name>>(&mut self, items: &[S], which: &W, first: &$name) -> Result<(), Error> {
-        Encoder::<$name>::encode_part_of_each(&mut self.fields, items, which, first)
+# The encoder of a part of the fields of a struct, which borrows them from the struct.
+PART = """impl$shaped PartEncoder<$whole, $name> for ${simple}Encoder {
+    ghost shape = { $shape };
+
+    ghost lists = { $lists };
+
+    ghost writes_free = { $free };
+
+    fn encode_part(&mut self, whole: &$whole) -> Result<(), Error> {
+        PartEncoder::<$whole, $numbers>::encode_part(&mut self.fields, whole)
     }
+
+    fn write_part(&mut self, whole: &$whole, out: &mut Vec<u8>) -> Result<(), Error> {
+        PartEncoder::<$whole, $numbers>::write_part(&mut self.fields, whole, out)
+    }
+
+    fn encode_part_in_each<S, W: Part<S, $whole>>(&mut self, items: &[S], which: &W) -> Result<(), Error> {
+        PartEncoder::<$whole, $numbers>::encode_part_in_each(&mut self.fields, items, which)
+    }
+
+    ghost of_shape = { λ e. refl };
+
+    ghost surely = { λ e n h. h };
+}
 
 """
 DECODER = """type $data<$input> = $decoder;
@@ -221,8 +244,8 @@ def owns_memory(type, own):
 
 
 def with_closed(items, own):
-    """What is known of the types, with which of them have coders of their own: structs that name many types, those that
-    hold such a struct, and larger ones and ones with memory that such a struct or an enum holds."""
+    """What is known of the types, with which of them have coders of their own: structs that have many fields or name many
+    types, those that hold such a struct, and larger ones and ones with memory that such a struct or an enum holds."""
     items = [item for item in items if not (item.types or item.consts)]
 
     def weighs_more(item, most):
@@ -239,7 +262,8 @@ def with_closed(items, own):
             and item.name not in closed
             and fields_of(item)
             and (
-                weighs_more(item, MOST_OPEN)
+                is_wide(item)
+                or weighs_more(item, MOST_OPEN)
                 or item.name in inside | held
                 and weighs_more(item, MOST_HELD)
                 or item.name in inside
@@ -291,9 +315,9 @@ def is_quoted(type, own):
     return all(known.is_closed or known.item and not (known.item.types or known.item.consts) for known in found)
 
 
-def writes_free(item, own, nested):
-    """That writing takes no memory if it takes none for any field, in the nested pairs of the fields."""
-    types = [field.type for field in fields_of(item)]
+def writes_free(fields, own, nested):
+    """That writing takes no memory if it takes none for any of the fields, in their nested pairs."""
+    types = [field.type for field in fields]
     text = nested([f"\0{number}\0" for number in range(len(types))]).replace(", ", " && ")
     for number, type in enumerate(types):
         of = of_text(type)
@@ -302,26 +326,58 @@ def writes_free(item, own, nested):
     return text
 
 
-def encoder_text(item, own, nested, name, life, shaped):
-    """The encoder of the item."""
-    still = life.replace(item.lifetime, "'static") if item.lifetime else life
-    each = "" if is_wide(item) else Template(EACH).substitute(name=name)
+def still_of(item, life):
+    """The lifetime parameter in the place of which encoders have that of the whole program."""
+    return life.replace(item.lifetime, "'static") if item.lifetime else life
+
+
+def encoder_text(item, free, name, life, shaped, fields):
+    """The encoder of the item, which has the encoder of its fields."""
+    still = still_of(item, life)
+    held = "Held" + (still if fields.endswith(">") else "")
     row = {
-        "each": each,
         "simple": item.name,
         "name": name,
-        "life": life,
-        "head": life,
-        "still": still,
-        "still_name": item.name + still,
+        "held": held,
+        "shape": f"⟦<{item.name}{still} as Shaped>⟧.data.shape",
+        "reserve": f"reserve_as::<{item.name}{still}, _>",
         "shaped": shaped,
+        "free": free,
     }
-    return Template(ENCODER).substitute(
-        row,
-        free=writes_free(item, own, nested)
-        if fields_of(item)
-        else "⟦<<() as HasEncoder>::Encoder as Encoder<()>>⟧.writes_free",
-    )
+    alias = f"type Held{fields.removeprefix('Fields')} = StructEncoder<{fields}>;\n\n"
+    return alias + Template(HOLDER + ENCODER).substitute(row)
+
+
+def lists_of(fields, nested):
+    """The listings of the fields of a struct, in their nested pairs."""
+    text = nested([f"\0{number}\0" for number in range(len(fields))]).replace("(", "(lists_both ").replace(", ", " ")
+    for number, field in enumerate(fields):
+        lists = f"(λ t d. ⟦<{of_text(field.type)} as Shaped>⟧.data.lists t.{field.name} d)"
+        text = text.replace(f"\0{number}\0", lists)
+    return text[1:-1]
+
+
+def part_encoder_text(part, number, struct, life, free, lists, types, numbers):
+    """The encoder of a part of the fields of a struct, of whose types and numbers these are the nested pairs."""
+    name, whole = part.name + (life if part.lifetime else ""), struct.name + life
+    pairs, held, names = (f"{alias}{number}" for alias in ("Pairs", "Held", "Numbers"))
+    of = life if part.lifetime else ""
+    still = still_of(part, of)
+    whole_still = struct.name + still_of(struct, life)
+    row = {
+        "simple": part.name,
+        "name": name,
+        "whole": whole,
+        "held": held + still,
+        "numbers": names,
+        "shape": f"⟦<{pairs}{still} as Shaped>⟧.data.shape",
+        "reserve": f"reserve_part::<{whole_still}, {names}, _>",
+        "shaped": life,
+        "free": free,
+        "lists": lists,
+    }
+    aliases = f"type {pairs}{of} = {types};\n\ntype {held}{of} = <{pairs}{of} as HasEncoder>::Encoder;\n\n"
+    return aliases + f"type {names} = {numbers};\n\n" + Template(HOLDER + PART).substitute(row)
 
 
 def decoder_text(simple, name, input, decoder, data="Data"):

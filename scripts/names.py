@@ -19,6 +19,7 @@ TAKEN |= {name: f"`{name}` is a name of std's prelude, {OF_THE_FILES}" for name 
 MODULES = set("alloc arrayvec bitcode core lib main std uuid".split())
 # What the file of a struct with coders of its own declares.
 CODERS = {"Encoder": "its encoder", "Decoder": "its decoder", "Inside": "the types inside it"}
+PART_CODERS = {"Encoder": "the encoder", "Decoder": "the decoder"}
 # What ends the names of the user's types while a file is written that uses one of them for something else.
 MARK = "ˣ"
 
@@ -79,7 +80,7 @@ def refuse_parts(items, own, told):
         if isinstance(item, Struct):
             parts = parts_of(item) if len(item.fields) > MOST_FIELDS else ()
             used = [(part.name, "a part of its fields") for part in parts]
-            used += [(part.name + "Decoder", "the decoder of a part of its fields") for part in parts]
+            used += [(part.name + end, f"{what} of a part of its fields") for part in parts for end, what in PART_CODERS.items()]
             used += [(item.name + end, what) for end, what in CODERS.items()] if is_closed(item, own) else []
         else:
             used = [(item.name + "Columns", "its columns"), (item.name + "Payloads", "its payloads")]

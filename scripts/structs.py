@@ -61,9 +61,9 @@ ${ghost_use}    type Field = $type;
 }
 
 """
-IN_FIELDS = """type Fields$head = <$nested as HasEncoder>::Encoder;
+IN_FIELDS = """type $fields = $encoders;
 
-impl$encoded InFields<Fields$life> for $name {
+impl$encoded InFields<$by> for $name {
     type Numbers = $numbers;
 
     type Inside = $inside;
@@ -249,20 +249,29 @@ def inside(item, own, types):
     return f"<{item.name}{arguments(item)} as HasDecoder<{item.lifetime or chr(39) + 'static'}>>::Decoder"
 
 
-def fields_text(item, own, lent, law, ghost_use="", nested=paired):
-    """How the fields are lent, of the terms and bodies that give each of them, in which nested pairs they are encoded, and by what."""
+def lent_text(item, lent, ghost_use=""):
+    """How the fields are lent, of the terms and bodies that give each of them."""
+    texts, name = [], item.name + arguments(item)
+    for number, (field, (ghost_field, body)) in enumerate(zip(fields_of(item), lent)):
+        texts.append(Template(FIELD).substitute(parameters=bounds(item, "Shaped"), number=number, type=of_text(field.type), name=name, ghost_use=ghost_use, ghost_field=ghost_field, lent=body))
+    return "".join(texts)
+
+
+def fields_text(item, own, lent, law, ghost_use=""):
+    """How the fields are lent, of the terms and bodies that give each of them, and by what they are encoded."""
     types, name = [of_text(field.type) for field in fields_of(item)], item.name + arguments(item)
-    texts = []
-    for number, (type, (ghost_field, body)) in enumerate(zip(types, lent)):
-        texts.append(Template(FIELD).substitute(parameters=bounds(item, "Shaped"), number=number, type=type, name=name, ghost_use=ghost_use, ghost_field=ghost_field, lent=body))
     numbers = [f"Nth<{number}>" for number in range(len(types))]
-    row = {"nested": nested(types), "numbers": nested(numbers)} if types else {"nested": "()", "numbers": "()"}
+    nested, numbers = (paired(types), paired(numbers)) if types else ("()", "()")
     life, has_encoder = arguments(item), bounds(item, "HasEncoder")
     if closed.is_closed(item, own):
-        encoder = closed.encoder_text(item, own, nested, name, life, bounds(item, "Shaped"))
+        free = closed.writes_free(fields_of(item), own, paired) if types else "⟦<<() as HasEncoder>::Encoder as Encoder<()>>⟧.writes_free"
+        encoder = closed.encoder_text(item, free, name, life, bounds(item, "Shaped"), "Fields" + life)
     else:
         encoder = Template(OPEN_ENCODER).substitute(has_encoder=has_encoder, name=name, life=life)
-    return "".join(texts) + Template(IN_FIELDS).substitute(row, head=bounds(item, ""), life=life, encoded=bounds(item, "Encode"), name=name, inside=inside(item, own, types), alike="λ t. " + (law if len(types) < 2 else law[1:-1])) + encoder
+    return lent_text(item, lent, ghost_use) + Template(IN_FIELDS).substitute(
+        fields="Fields" + bounds(item, ""), encoders=f"<{nested} as HasEncoder>::Encoder", encoded=bounds(item, "Encode"), by="Fields" + life,
+        name=name, numbers=numbers, inside=inside(item, own, types), alike="λ t. " + (law if len(types) < 2 else law[1:-1]),
+    ) + encoder
 
 
 def types_left(item, own):
@@ -294,7 +303,7 @@ def closed_head(item, own):
     words = ["◌&&◌"] if len(fields_of(item)) > 1 else []
     words += [] if all(closed.is_quoted(field.type, own) for field in fields_of(item)) else ["false"]
     operators = f"ghost use Rattle.std.specs.Prelude.{{{', '.join(words)}}};\n" if words else ""
-    return operators, {"reserve_as"} if closed.is_wide(item) else {"Part", "reserve_as"}
+    return operators, {"Part", "reserve_as"}
 
 
 def decoders(types, apart, input):

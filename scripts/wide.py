@@ -5,9 +5,9 @@ from string import Template
 from declarations import fields_of
 from known_types import Checker, names_in, of_text, types_in
 from tokens import Refused
-from closed import NEEDED, decoder_text
-from structs import BODY, DATA, HEAD, OWNED, alike, arguments, bounds, closed_head, closed_parts, declaration, decoder_of_parts
-from structs import fields_text, halved, initialized, is_generic, paired, parameter, paths, places, quoted
+from closed import NEEDED, decoder_text, encoder_text, lists_of, part_encoder_text, writes_free
+from structs import BODY, DATA, HEAD, IN_FIELDS, OWNED, alike, arguments, bounds, closed_head, closed_parts, declaration, decoder_of_parts
+from structs import halved, initialized, inside, is_generic, lent_text, paired, parameter, paths, places, quoted
 
 # A struct has no more fields than these, which name no more types: of more the borrow checker covers no encoder.
 MOST_WIDE = MOST_ENCODED = 48
@@ -68,6 +68,31 @@ def alike_parts(sizes):
     return alike(sizes[0]) if len(sizes) == 1 else f"(pair_alike {alike_parts(sizes[:half])} {alike_parts(sizes[half:])})"
 
 
+def nested_encoders(names):
+    """The encoder of the parts, in pairs."""
+    half = len(names) // 2
+    return names[0] + "Encoder" if half == 0 else f"TupleEncoder<{nested_encoders(names[:half])}, {nested_encoders(names[half:])}>"
+
+
+def encoders_text(struct, parts, own):
+    """How the fields are lent, the encoders of the parts, and that of all fields."""
+    life, texts, first = arguments(struct), [], 0
+    for number, part in enumerate(parts):
+        numbers = [f"Nth<{at}>" for at in range(first, first + len(part.fields))]
+        types = [of_text(field.type) for field in part.fields]
+        first += len(part.fields)
+        texts.append(part_encoder_text(part, number, struct, life, writes_free(part.fields, own, paired), lists_of(part.fields, paired), paired(types), paired(numbers)))
+    whole, name = [part.name + arguments(part) for part in parts], struct.name + life
+    each = [f"⟦<{part.name}Encoder as PartEncoder<{name}, {of}>>⟧.writes_free" for part, of in zip(parts, whole)]
+    in_fields = Template(IN_FIELDS).substitute(
+        fields="Fields", encoders=nested_encoders([part.name for part in parts]), encoded=life, by="Fields", name=name, numbers=paired(whole),
+        inside=inside(struct, own, []), alike="λ t. " + alike_parts([len(part.fields) for part in parts])[1:-1],
+    )
+    lent = lent_text(struct, [(f"λ t. t.{field.name}", f"&self.{field.name}") for field in struct.fields])
+    free = paired(each).replace(", ⟦", " && ⟦").replace(", (", " && (")
+    return lent + "".join(texts) + in_fields + encoder_text(struct, free, name, life, life, "Fields")
+
+
 def wide_text(struct, own, told):
     """The file of the struct, and the crates that it needs."""
     if len(struct.fields) > MOST_WIDE:
@@ -93,17 +118,10 @@ def wide_text(struct, own, told):
     used = {"ConvertFrom", "DecoderOfFields", "Error", "HasDecoder", "HasEncoder", "HasField", "InFields", "Nth", "Shaped", "StructEncoder"}
     used |= set() if struct.lifetime else {"DecodeOwned"}
     used |= {"ConvertFromDecoder"} if any("ConvertFromDecoder<" in text for text in texts) else set()
-    used |= {"reserve_as"}
+    used |= {"Part", "PartEncoder", "TupleEncoder", "reserve_as", "reserve_part"}
     used |= {"TupleDecoder"} if any("TupleDecoder<" in text for text in texts) else set()
     imports = {*checker.imports, "std::alloc::Global", NEEDED}
     uses = sorted([f"use bitcode::{{{', '.join(sorted(used))}}};", *(f"use {path};" for path in imports)])
-    sizes = [len(part.fields) for part in parts]
-
-    def nested(items):
-        """The items of each part in nested pairs, and those in pairs."""
-        rest = iter(items)
-        return paired([paired([next(rest) for _ in range(size)]) for size in sizes])
-
     data = Template(DATA).substitute(
         ghost_parts=f"λ t. {paired([f'record {{ {record_of(part.fields, chr(116))} }}' for part in parts])}",
         ghost_made="record { " + "; ".join(f"{quoted(field.name)} = {place}" for field, place in found) + " }", one_to_one="λ t. refl", parts=alias,
@@ -114,13 +132,13 @@ def wide_text(struct, own, told):
         declaration="", alias=f"type {alias} = {paired(whole)};\n\n{named}", shaped=bounds(struct, "Shaped"), name=name, ghost_use="", parts=alias, data=data,
         told="".join(f"\n        self.{field.name}.told();" for field in struct.fields) + "\n    ",
         taken=paired(held), moved=moved + " ", built=f"{struct.name} {{ {', '.join(map(initialized, struct.fields))} }}",
-        encoded=fields_text(struct, own, [(f"λ t. t.{field.name}", f"&self.{field.name}") for field in struct.fields], alike_parts(sizes), nested=nested), apart=apart, has_decoder=bounds(struct, f"HasDecoder<{input}>", input), input=input,
+        encoded=encoders_text(struct, parts, own), apart=apart, has_decoder=bounds(struct, f"HasDecoder<{input}>", input), input=input,
         decoder=type_of_decoder,
         owned="" if struct.lifetime else Template(OWNED).substitute(parameters=bounds(struct, "DecodeOwned"), name=name),
     )
     head = Template(HEAD).substitute(
         about=f"`{struct.name}` corresponds to pairs of parts of its fields. What is below its declaration was written by `scripts/new_type`.",
         operators=closed_head(struct, own)[0],
-        by_hand=f"ghost use Rattle.bitcode.specs.ByHand.{{{', '.join(['SurelyOverflows', 'data_as', 'field_alike', 'pair_alike', 'refl'])}}};\n", uses="\n".join(uses) + "\n",
+        by_hand=f"ghost use Rattle.bitcode.specs.ByHand.{{{', '.join(['SurelyOverflows', 'data_as', 'field_alike', 'lists_both', 'pair_alike', 'refl'])}}};\n", uses="\n".join(uses) + "\n",
     )
     return head + declaration(struct) + "\n" + "\n".join(texts) + body, checker.crates

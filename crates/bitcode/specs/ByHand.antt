@@ -30,6 +30,8 @@ pub use Rattle.bitcode_enums.specs.HeldColumns.{columns_in, payloads_in}
 pub use Rattle.bitcode_enums.specs.ByNumberLaws.{columns_and}
 -- That a struct and the nested pairs of its fields have the same listings:
 pub use Rattle.bitcode_tuples.specs.FieldLaws.{field_alike, pair_alike}
+-- The listings of some of its fields:
+pub use Rattle.bitcode_structs.specs.FieldListings.{lists_both}
 -- The columns that encoders hold, the data that decoders hold, and what containers are made of:
 pub use Rattle.bitcode_coder.specs.Columns.{no_columns, two}
 pub use Rattle.bitcode_tuples.specs.Pairs.{pairs_of}

@@ -122,8 +122,10 @@ pub mod own {
     pub use bitcode_shapes::no_variants::{Absent, NoVariants};
     pub use bitcode_structs::checked::{CheckedDecoder, FromChecked};
     pub use bitcode_structs::decoded::{Decoded, FromDecoded, PrivateDecoder};
+    pub use bitcode_structs::parts::reserve_part;
     pub use bitcode_tuples::fields::Fields;
     pub use bitcode_tuples::has_field::{HasField, Nth};
+    pub use bitcode_tuples::part_encoder::PartEncoder;
     pub use bitcode_tuples::struct_encoder::{InFields, StructEncoder};
 
     /// The decoder of a struct, which corresponds to the tuple `P` of its fields.

@@ -1,13 +1,16 @@
 //! `Account` corresponds to pairs of parts of its fields. What is below its declaration was written by
 //! `scripts/new_type`.
 ghost use Rattle.std.specs.Prelude.{◌&&◌};
-ghost use Rattle.bitcode.specs.ByHand.{SurelyOverflows, data_as, field_alike, pair_alike, refl};
+ghost use Rattle.bitcode.specs.ByHand.{SurelyOverflows, data_as, field_alike, lists_both, pair_alike, refl};
 
 use crate::home::Home;
 use crate::trophy::Trophy;
 use bitcode::coder::{Buffer, ColumnFree, Decoder, Encoder, HoldsColumns, HoldsData, View};
-use bitcode::own::{DecoderOfFields, HasField, InFields, Nth, StructEncoder, reserve_as};
-use bitcode::{ConvertFrom, Error, HasDecoder, HasEncoder, Shaped};
+use bitcode::own::{
+    DecoderOfFields, HasField, InFields, Nth, Part, PartEncoder, StructEncoder, reserve_as,
+    reserve_part,
+};
+use bitcode::{ConvertFrom, Error, HasDecoder, HasEncoder, Shaped, TupleEncoder};
 use std::alloc::Global;
 
 /// A player's account, as a server sends it.
@@ -624,22 +627,258 @@ impl<'a> HasField<16> for Account<'a> {
     }
 }
 
-type Fields<'a> = <(
-    ((u64, String), (&'a str, (u8, bool))),
-    (
-        ((i64, (Option<i16>, Vec<u8>)), (char, (Vec<String>, Home))),
-        (((i32, i32), (Option<Trophy>, u32)), (u16, (u128, u8))),
-    ),
-) as HasEncoder>::Encoder;
+type Pairs0<'a> = ((u64, String), (&'a str, (u8, bool)));
 
-impl<'a> InFields<Fields<'a>> for Account<'a> {
-    type Numbers = (
-        ((Nth<0>, Nth<1>), (Nth<2>, (Nth<3>, Nth<4>))),
-        (
-            ((Nth<5>, (Nth<6>, Nth<7>)), (Nth<8>, (Nth<9>, Nth<10>))),
-            ((Nth<11>, (Nth<12>, Nth<13>)), (Nth<14>, (Nth<15>, Nth<16>))),
-        ),
-    );
+type Held0<'a> = <Pairs0<'a> as HasEncoder>::Encoder;
+
+type Numbers0 = ((Nth<0>, Nth<1>), (Nth<2>, (Nth<3>, Nth<4>)));
+
+/// The columns of `AccountPart0`.
+#[derive(Drop)]
+pub struct AccountPart0Encoder {
+    fields: Held0<'static>,
+}
+
+impl HoldsColumns for AccountPart0Encoder {
+    ghost columns = { λ e. ⟦<Held0<'static> as HoldsColumns>⟧.columns e.fields };
+
+    ghost room = { λ e. ⟦<Held0<'static> as HoldsColumns>⟧.room e.fields };
+
+    ghost capacity = { λ e. ⟦<Held0<'static> as HoldsColumns>⟧.capacity e.fields };
+
+    ghost surely_overflows = { λ e n. SurelyOverflows ⟦<Pairs0<'static> as Shaped>⟧.data.shape
+        (⟦<Held0<'static> as HoldsColumns>⟧.columns e.fields) n };
+
+    ghost overflows = { λ e n. ⟦<Held0<'static> as HoldsColumns>⟧.overflows e.fields n };
+}
+
+impl Buffer for AccountPart0Encoder {
+    fn new(alloc: Global) -> Self {
+        AccountPart0Encoder {
+            fields: Buffer::new(alloc),
+        }
+    }
+
+    fn reserve(&mut self, n: usize) -> Result<(), Error> {
+        reserve_part::<Account<'static>, Numbers0, _>(&mut self.fields, n)
+    }
+
+    fn collect_into(&mut self, out: &mut Vec<u8>) -> Result<(), Error> {
+        self.fields.collect_into(out)
+    }
+
+    fn clear(&mut self) {
+        self.fields.clear();
+    }
+}
+
+impl<'a> PartEncoder<Account<'a>, AccountPart0<'a>> for AccountPart0Encoder {
+    ghost shape = { ⟦<Pairs0<'static> as Shaped>⟧.data.shape };
+
+    ghost lists = { lists_both
+        (lists_both (λ t d. ⟦<u64 as Shaped>⟧.data.lists t.id d)
+        (λ t d. ⟦<String as Shaped>⟧.data.lists t.name d))
+        (lists_both (λ t d. ⟦<&'a str as Shaped>⟧.data.lists t.country d)
+        (lists_both (λ t d. ⟦<u8 as Shaped>⟧.data.lists t.level d)
+        (λ t d. ⟦<bool as Shaped>⟧.data.lists t.active d))) };
+
+    ghost writes_free = { ((⟦<<u64 as HasEncoder>::Encoder as Encoder<u64>>⟧.writes_free &&
+        ⟦<<String as HasEncoder>::Encoder as Encoder<String>>⟧.writes_free) &&
+        (⟦<<&'a str as HasEncoder>::Encoder as Encoder<&'a str>>⟧.writes_free &&
+        (⟦<<u8 as HasEncoder>::Encoder as Encoder<u8>>⟧.writes_free &&
+        ⟦<<bool as HasEncoder>::Encoder as Encoder<bool>>⟧.writes_free))) };
+
+    fn encode_part(&mut self, whole: &Account<'a>) -> Result<(), Error> {
+        PartEncoder::<Account<'a>, Numbers0>::encode_part(&mut self.fields, whole)
+    }
+
+    fn write_part(&mut self, whole: &Account<'a>, out: &mut Vec<u8>) -> Result<(), Error> {
+        PartEncoder::<Account<'a>, Numbers0>::write_part(&mut self.fields, whole, out)
+    }
+
+    fn encode_part_in_each<S, W: Part<S, Account<'a>>>(
+        &mut self,
+        items: &[S],
+        which: &W,
+    ) -> Result<(), Error> {
+        PartEncoder::<Account<'a>, Numbers0>::encode_part_in_each(&mut self.fields, items, which)
+    }
+
+    ghost of_shape = { λ e. refl };
+
+    ghost surely = { λ e n h. h };
+}
+
+type Pairs1 = ((i64, (Option<i16>, Vec<u8>)), (char, (Vec<String>, Home)));
+
+type Held1 = <Pairs1 as HasEncoder>::Encoder;
+
+type Numbers1 = ((Nth<5>, (Nth<6>, Nth<7>)), (Nth<8>, (Nth<9>, Nth<10>)));
+
+/// The columns of `AccountPart1`.
+#[derive(Drop)]
+pub struct AccountPart1Encoder {
+    fields: Held1,
+}
+
+impl HoldsColumns for AccountPart1Encoder {
+    ghost columns = { λ e. ⟦<Held1 as HoldsColumns>⟧.columns e.fields };
+
+    ghost room = { λ e. ⟦<Held1 as HoldsColumns>⟧.room e.fields };
+
+    ghost capacity = { λ e. ⟦<Held1 as HoldsColumns>⟧.capacity e.fields };
+
+    ghost surely_overflows = { λ e n. SurelyOverflows ⟦<Pairs1 as Shaped>⟧.data.shape
+        (⟦<Held1 as HoldsColumns>⟧.columns e.fields) n };
+
+    ghost overflows = { λ e n. ⟦<Held1 as HoldsColumns>⟧.overflows e.fields n };
+}
+
+impl Buffer for AccountPart1Encoder {
+    fn new(alloc: Global) -> Self {
+        AccountPart1Encoder {
+            fields: Buffer::new(alloc),
+        }
+    }
+
+    fn reserve(&mut self, n: usize) -> Result<(), Error> {
+        reserve_part::<Account<'static>, Numbers1, _>(&mut self.fields, n)
+    }
+
+    fn collect_into(&mut self, out: &mut Vec<u8>) -> Result<(), Error> {
+        self.fields.collect_into(out)
+    }
+
+    fn clear(&mut self) {
+        self.fields.clear();
+    }
+}
+
+impl<'a> PartEncoder<Account<'a>, AccountPart1> for AccountPart1Encoder {
+    ghost shape = { ⟦<Pairs1 as Shaped>⟧.data.shape };
+
+    ghost lists = { lists_both
+        (lists_both (λ t d. ⟦<i64 as Shaped>⟧.data.lists t.balance d)
+        (lists_both (λ t d. ⟦<Option<i16> as Shaped>⟧.data.lists t.rating d)
+        (λ t d. ⟦<Vec<u8> as Shaped>⟧.data.lists t.avatar d)))
+        (lists_both (λ t d. ⟦<char as Shaped>⟧.data.lists t.initial d)
+        (lists_both (λ t d. ⟦<Vec<String> as Shaped>⟧.data.lists t.tags d)
+        (λ t d. ⟦<Home as Shaped>⟧.data.lists t.home d))) };
+
+    ghost writes_free = { ((⟦<<i64 as HasEncoder>::Encoder as Encoder<i64>>⟧.writes_free &&
+        (⟦<<Option<i16> as HasEncoder>::Encoder as Encoder<Option<i16>>>⟧.writes_free &&
+        ⟦<<Vec<u8> as HasEncoder>::Encoder as Encoder<Vec<u8>>>⟧.writes_free)) &&
+        (⟦<<char as HasEncoder>::Encoder as Encoder<char>>⟧.writes_free &&
+        (⟦<<Vec<String> as HasEncoder>::Encoder as Encoder<Vec<String>>>⟧.writes_free &&
+        ⟦<<Home as HasEncoder>::Encoder as Encoder<Home>>⟧.writes_free))) };
+
+    fn encode_part(&mut self, whole: &Account<'a>) -> Result<(), Error> {
+        PartEncoder::<Account<'a>, Numbers1>::encode_part(&mut self.fields, whole)
+    }
+
+    fn write_part(&mut self, whole: &Account<'a>, out: &mut Vec<u8>) -> Result<(), Error> {
+        PartEncoder::<Account<'a>, Numbers1>::write_part(&mut self.fields, whole, out)
+    }
+
+    fn encode_part_in_each<S, W: Part<S, Account<'a>>>(
+        &mut self,
+        items: &[S],
+        which: &W,
+    ) -> Result<(), Error> {
+        PartEncoder::<Account<'a>, Numbers1>::encode_part_in_each(&mut self.fields, items, which)
+    }
+
+    ghost of_shape = { λ e. refl };
+
+    ghost surely = { λ e n h. h };
+}
+
+type Pairs2 = (((i32, i32), (Option<Trophy>, u32)), (u16, (u128, u8)));
+
+type Held2 = <Pairs2 as HasEncoder>::Encoder;
+
+type Numbers2 = ((Nth<11>, (Nth<12>, Nth<13>)), (Nth<14>, (Nth<15>, Nth<16>)));
+
+/// The columns of `AccountPart2`.
+#[derive(Drop)]
+pub struct AccountPart2Encoder {
+    fields: Held2,
+}
+
+impl HoldsColumns for AccountPart2Encoder {
+    ghost columns = { λ e. ⟦<Held2 as HoldsColumns>⟧.columns e.fields };
+
+    ghost room = { λ e. ⟦<Held2 as HoldsColumns>⟧.room e.fields };
+
+    ghost capacity = { λ e. ⟦<Held2 as HoldsColumns>⟧.capacity e.fields };
+
+    ghost surely_overflows = { λ e n. SurelyOverflows ⟦<Pairs2 as Shaped>⟧.data.shape
+        (⟦<Held2 as HoldsColumns>⟧.columns e.fields) n };
+
+    ghost overflows = { λ e n. ⟦<Held2 as HoldsColumns>⟧.overflows e.fields n };
+}
+
+impl Buffer for AccountPart2Encoder {
+    fn new(alloc: Global) -> Self {
+        AccountPart2Encoder {
+            fields: Buffer::new(alloc),
+        }
+    }
+
+    fn reserve(&mut self, n: usize) -> Result<(), Error> {
+        reserve_part::<Account<'static>, Numbers2, _>(&mut self.fields, n)
+    }
+
+    fn collect_into(&mut self, out: &mut Vec<u8>) -> Result<(), Error> {
+        self.fields.collect_into(out)
+    }
+
+    fn clear(&mut self) {
+        self.fields.clear();
+    }
+}
+
+impl<'a> PartEncoder<Account<'a>, AccountPart2> for AccountPart2Encoder {
+    ghost shape = { ⟦<Pairs2 as Shaped>⟧.data.shape };
+
+    ghost lists = { lists_both
+        (lists_both (λ t d. ⟦<(i32, i32) as Shaped>⟧.data.lists t.position d)
+        (lists_both (λ t d. ⟦<Option<Trophy> as Shaped>⟧.data.lists t.best d)
+        (λ t d. ⟦<u32 as Shaped>⟧.data.lists t.visits d)))
+        (lists_both (λ t d. ⟦<u16 as Shaped>⟧.data.lists t.friends d)
+        (lists_both (λ t d. ⟦<u128 as Shaped>⟧.data.lists t.checksum d)
+        (λ t d. ⟦<u8 as Shaped>⟧.data.lists t.rank d))) };
+
+    ghost writes_free = { ((⟦<<(i32, i32) as HasEncoder>::Encoder as Encoder<(i32, i32)>>⟧.writes_free && (⟦<<Option<Trophy> as HasEncoder>::Encoder as Encoder<Option<Trophy>>>⟧.writes_free && ⟦<<u32 as HasEncoder>::Encoder as Encoder<u32>>⟧.writes_free)) && (⟦<<u16 as HasEncoder>::Encoder as Encoder<u16>>⟧.writes_free && (⟦<<u128 as HasEncoder>::Encoder as Encoder<u128>>⟧.writes_free && ⟦<<u8 as HasEncoder>::Encoder as Encoder<u8>>⟧.writes_free))) };
+
+    fn encode_part(&mut self, whole: &Account<'a>) -> Result<(), Error> {
+        PartEncoder::<Account<'a>, Numbers2>::encode_part(&mut self.fields, whole)
+    }
+
+    fn write_part(&mut self, whole: &Account<'a>, out: &mut Vec<u8>) -> Result<(), Error> {
+        PartEncoder::<Account<'a>, Numbers2>::write_part(&mut self.fields, whole, out)
+    }
+
+    fn encode_part_in_each<S, W: Part<S, Account<'a>>>(
+        &mut self,
+        items: &[S],
+        which: &W,
+    ) -> Result<(), Error> {
+        PartEncoder::<Account<'a>, Numbers2>::encode_part_in_each(&mut self.fields, items, which)
+    }
+
+    ghost of_shape = { λ e. refl };
+
+    ghost surely = { λ e n h. h };
+}
+
+type Fields = TupleEncoder<
+    AccountPart0Encoder,
+    TupleEncoder<AccountPart1Encoder, AccountPart2Encoder>,
+>;
+
+impl<'a> InFields<Fields> for Account<'a> {
+    type Numbers = (AccountPart0<'a>, (AccountPart1, AccountPart2));
 
     type Inside = AccountInside<'a>;
 
@@ -656,25 +895,25 @@ impl<'a> InFields<Fields<'a>> for Account<'a> {
         (pair_alike field_alike (pair_alike field_alike field_alike)))) };
 }
 
-type Held<'a> = StructEncoder<Fields<'a>>;
+type Held = StructEncoder<Fields>;
 
 /// The columns of `Account`.
 #[derive(Drop)]
 pub struct AccountEncoder {
-    fields: Held<'static>,
+    fields: Held,
 }
 
 impl HoldsColumns for AccountEncoder {
-    ghost columns = { λ e. ⟦<Held<'static> as HoldsColumns>⟧.columns e.fields };
+    ghost columns = { λ e. ⟦<Held as HoldsColumns>⟧.columns e.fields };
 
-    ghost room = { λ e. ⟦<Held<'static> as HoldsColumns>⟧.room e.fields };
+    ghost room = { λ e. ⟦<Held as HoldsColumns>⟧.room e.fields };
 
-    ghost capacity = { λ e. ⟦<Held<'static> as HoldsColumns>⟧.capacity e.fields };
+    ghost capacity = { λ e. ⟦<Held as HoldsColumns>⟧.capacity e.fields };
 
     ghost surely_overflows = { λ e n. SurelyOverflows ⟦<Account<'static> as Shaped>⟧.data.shape
-        (⟦<Held<'static> as HoldsColumns>⟧.columns e.fields) n };
+        (⟦<Held as HoldsColumns>⟧.columns e.fields) n };
 
-    ghost overflows = { λ e n. ⟦<Held<'static> as HoldsColumns>⟧.overflows e.fields n };
+    ghost overflows = { λ e n. ⟦<Held as HoldsColumns>⟧.overflows e.fields n };
 }
 
 impl Buffer for AccountEncoder {
@@ -698,23 +937,7 @@ impl Buffer for AccountEncoder {
 }
 
 impl<'a> Encoder<Account<'a>> for AccountEncoder {
-    ghost writes_free = { (((⟦<<u64 as HasEncoder>::Encoder as Encoder<u64>>⟧.writes_free &&
-        ⟦<<String as HasEncoder>::Encoder as Encoder<String>>⟧.writes_free) &&
-        (⟦<<&'a str as HasEncoder>::Encoder as Encoder<&'a str>>⟧.writes_free &&
-        (⟦<<u8 as HasEncoder>::Encoder as Encoder<u8>>⟧.writes_free &&
-        ⟦<<bool as HasEncoder>::Encoder as Encoder<bool>>⟧.writes_free))) &&
-        (((⟦<<i64 as HasEncoder>::Encoder as Encoder<i64>>⟧.writes_free &&
-        (⟦<<Option<i16> as HasEncoder>::Encoder as Encoder<Option<i16>>>⟧.writes_free &&
-        ⟦<<Vec<u8> as HasEncoder>::Encoder as Encoder<Vec<u8>>>⟧.writes_free)) &&
-        (⟦<<char as HasEncoder>::Encoder as Encoder<char>>⟧.writes_free &&
-        (⟦<<Vec<String> as HasEncoder>::Encoder as Encoder<Vec<String>>>⟧.writes_free &&
-        ⟦<<Home as HasEncoder>::Encoder as Encoder<Home>>⟧.writes_free))) &&
-        ((⟦<<(i32, i32) as HasEncoder>::Encoder as Encoder<(i32, i32)>>⟧.writes_free &&
-        (⟦<<Option<Trophy> as HasEncoder>::Encoder as Encoder<Option<Trophy>>>⟧.writes_free &&
-        ⟦<<u32 as HasEncoder>::Encoder as Encoder<u32>>⟧.writes_free)) &&
-        (⟦<<u16 as HasEncoder>::Encoder as Encoder<u16>>⟧.writes_free &&
-        (⟦<<u128 as HasEncoder>::Encoder as Encoder<u128>>⟧.writes_free &&
-        ⟦<<u8 as HasEncoder>::Encoder as Encoder<u8>>⟧.writes_free))))) };
+    ghost writes_free = { (⟦<AccountPart0Encoder as PartEncoder<Account<'a>, AccountPart0<'a>>>⟧.writes_free && (⟦<AccountPart1Encoder as PartEncoder<Account<'a>, AccountPart1>>⟧.writes_free && ⟦<AccountPart2Encoder as PartEncoder<Account<'a>, AccountPart2>>⟧.writes_free)) };
 
     fn encode(&mut self, t: &Account<'a>) -> Result<(), Error> {
         Encoder::<Account<'a>>::encode(&mut self.fields, t)
@@ -722,6 +945,15 @@ impl<'a> Encoder<Account<'a>> for AccountEncoder {
 
     fn write_directly(&mut self, t: &Account<'a>, out: &mut Vec<u8>) -> Result<bool, Error> {
         Encoder::<Account<'a>>::write_directly(&mut self.fields, t, out)
+    }
+
+    fn encode_part_of_each<S, W: Part<S, Account<'a>>>(
+        &mut self,
+        items: &[S],
+        which: &W,
+        first: &Account<'a>,
+    ) -> Result<(), Error> {
+        Encoder::<Account<'a>>::encode_part_of_each(&mut self.fields, items, which, first)
     }
 
     ghost of_shape = { λ e. refl };

@@ -1,2 +1,3 @@
 pub mod CheckedFields
+pub mod FieldListings
 pub mod Skipped

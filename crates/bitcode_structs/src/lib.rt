@@ -1,5 +1,6 @@
-//! The decoders of structs with private fields, and of structs whose constructor checks their fields.
+//! What structs with private fields, with a constructor that checks them, or with many fields need.
 #![tactic(auto)]
 
 pub mod checked;
 pub mod decoded;
+pub mod parts;
