@@ -2,7 +2,7 @@
 use bitcode::sealed::{Label, OpenError, open_any, seal, seal_bytes};
 use bitcode_changed_types::hurry::Hurry;
 use bitcode_changed_types::job::{Job, JobOf1, JobOf2};
-use bitcode_changed_types::opened::{EXPECTED, JOB, first_job_again, open_job, open_jobs, open_queue};
+use bitcode_changed_types::opened::{EXPECTED, JOB, first_job_again, open_job, open_queue};
 use bitcode_changed_types::queue::Queue;
 use bitcode_changed_types::state::State;
 use std::alloc::Global;
@@ -119,14 +119,14 @@ fn a_map_is_opened_of_each_version(rt: HostRuntime) -> Result<(), OpenError> {
         firsts.insert(number, first(alloc, number as u64)?)?;
         seconds.insert(number, second(alloc, number as u64)?)?;
     }
-    let opened = open_jobs(alloc, &seal(alloc, FIRST_JOB, &firsts)?)?;
-    let again = open_jobs(alloc, &seal(alloc, SECOND, &seconds)?)?;
+    let opened: HashMap<u32, Job> = open_any(alloc, &EXPECTED, &seal(alloc, FIRST_JOB, &firsts)?)?;
+    let again: HashMap<u32, Job> = open_any(alloc, &EXPECTED, &seal(alloc, SECOND, &seconds)?)?;
     assert!(rt; opened.len() == 40 && again.len() == 40);
     for number in 0..40 {
         assert!(rt; opened.get(&number) == Some(&job(alloc, number as u64, 5)?));
         assert!(rt; again.get(&number) == Some(&job(alloc, number as u64, 2)?));
     }
-    let newest = open_jobs(alloc, &seal(alloc, JOB, &again)?)?;
+    let newest: HashMap<u32, Job> = open_any(alloc, &EXPECTED, &seal(alloc, JOB, &again)?)?;
     assert!(rt; newest.len() == 40 && newest.get(&3) == again.get(&3));
     Ok(())
 }

@@ -44,14 +44,16 @@ DECODED = [
     (28, "NonZeroU32", [4, 1]), (28, "char", [4, 97]),
     (29, "Option<bool>", [2]),
     (33, "Vec<Result<bool, u32>>", [2, 1, 0, 4, 1]), (33, "IpAddr", [1, 8, 1]),
-    (33, "SocketAddr", [0, 0, 1, 0, 0, 127, 80, 0]),
+    (33, "SocketAddr", [0, 0, 1, 0, 0, 127, 80, 0]), (33, "Ordering", [2]),
+    (34, "f32", [0, 0, 128, 63]), (34, "f64", [0, 0, 0, 0, 0, 0, 0, 240, 63]),
+    (34, "Vec<f32>", [5, 0, 0, 128, 0, 0, 0, 0, 0, 0, 0, 0, 96, 205, 204, 204, 63, 192, 63, 64, 61]),
     (35, "Vec<u16>", [17, 1, 43, 1, 10, 255, 255, 0]),
     (36, "Vec<Vec<u8>>", [2, 0, 3, 6, 57]),
     (37, "Vec<&str>", [2, 3, 3, 226, 152, 186, 226, 152, 186]),
     (38, "Vec<&str>", [3, 10, 5, 97, 98]), (38, "&str", [255, 6, 255] + [97] * 255),
     (39, "One", [7]), (39, "Vec<Never>", [0]),
     (41, "[i8; 7]", [9, 255, 85]), (41, "Vec<[u8; 0]>", [100]), (41, f"({'u8, ' * 16})", list(range(16))),
-    (41, "Box<u8>", [123]), (41, "Arc<u8>", [123]), (41, "Range<u8>", [3, 9]),
+    (41, "Box<u8>", [123]), (41, "Wrapping<u8>", [123]), (41, "Arc<u8>", [123]), (41, "Range<u8>", [3, 9]),
     (41, "RcStr", [3, 98, 111, 120]), (41, "PhantomData<u8>", []),
     (43, "BTreeSet<u8>", [3, 0, 2, 1, 2]), (43, "BTreeSet<u8>", [2, 1, 2]), (43, "BinaryHeap<u8>", [3, 0, 2, 1, 2]),
     (43, "HashMap<u8, u8>", [1, 1, 6]),
@@ -73,6 +75,7 @@ DESERIALIZED = [
     (24, "Seq(Tuple(Option(U8), U8))", [2, 0, 1, 3, 5, 4]),
     (29, "Option(Bool)", [1, 1]),
     (33, "Seq(Enum(Bool, U32))", [2, 1, 0, 4, 1, 0]),
+    (34, "Seq(Tuple(F32, F64))", [1, 0, 0, 128, 63, 0, 0, 0, 0, 0, 0, 0, 240, 63]),
     (46, "Seq(Seq(U8))", [2, 1, 2, 6, 57]),
     (47, "Map(U8, Str)", [1, 1, 1, 97]), (47, "Tuple(Bool)", [1]), (47, "Seq(Enum())", [0]),
     (48, "[Seq(Ref 1), Option(Ref 0)] root 0", [2, 1, 0, 0]),
@@ -89,11 +92,12 @@ use bitcode_test_support::by_hand::never::Never;
 use bitcode_test_support::by_hand::one::One;
 use bitcode_test_support::by_hand::two::Two;
 use std::alloc::Global;
+use std::cmp::Ordering;
 use std::collections::{BTreeMap, BTreeSet, BinaryHeap, HashMap};
 use std::io;
 use std::marker::PhantomData;
 use std::net::{IpAddr, SocketAddr};
-use std::num::NonZeroU32;
+use std::num::{NonZeroU32, Wrapping};
 use std::ops::Range;
 use std::process::ExitCode;
 use std::rc::RcStr;

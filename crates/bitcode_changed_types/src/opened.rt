@@ -10,7 +10,6 @@ use bitcode::sealed::{
     seal,
 };
 use std::alloc::Global;
-use std::collections::HashMap;
 
 /// What jobs are sealed under today.
 pub const JOB: Label = Label {
@@ -53,13 +52,6 @@ pub fn open_queue<'a>(alloc: Global, bytes: &'a [u8]) -> Result<Queue, OpenError
         ⟦<Queue as Shaped>⟧.data.shape ⟦<QueueVersions as ReadsVersions<'a, Queue>>⟧.includes
         ⟦<QueueVersions as ReadsVersions<'a, Queue>>⟧.opens EXPECTED bytes.now queue) }
 {
-    open_any(alloc, &EXPECTED, bytes)
-}
-
-/// Opens jobs by their numbers, of any of the three versions.
-///
-/// Errors: those of `open_any`.
-pub fn open_jobs<'a>(alloc: Global, bytes: &'a [u8]) -> Result<HashMap<u32, Job>, OpenError> {
     open_any(alloc, &EXPECTED, bytes)
 }
 
