@@ -30,3 +30,6 @@ pub mod FieldWritingLemmas
 pub mod ChoiceWritingLemmas
 pub mod CaseWritingLemmas
 pub mod OneLemmas
+pub mod CutLemmas
+pub mod MakingLemmas
+pub mod DealLemmas

@@ -1,12 +1,17 @@
 //! Schemas that are made at run time, checks of bytes and encoding of values by them.
 #![tactic(auto)]
 
+mod becomes;
 pub mod check;
 mod choices;
+mod deal;
 pub mod encode;
+mod gather;
 mod leaves;
 mod limits;
+mod make;
 mod parts;
 mod read;
 pub mod schema;
+mod turns;
 mod write;

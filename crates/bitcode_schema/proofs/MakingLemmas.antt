@@ -1,0 +1,29 @@
+-- Values are made of all data that were read.
+use Rattle.std.proofs.Common.{◌≡◌, ℕ, ◌+◌, Option, Some, List, [], ◌∷◌, ◌++◌, length, sym, ap, subst, ◌∙◌, arith, length-append}
+use Rattle.std.specs.List.{AllZip}
+use Rattle.std.proofs.lemmas.List.{append-nil, nil_from_length}
+use Rattle.bitcode_columns.specs.Reading.{Reads}
+use Rattle.bitcode_shapes.specs.Datum.{Datum}
+use Rattle.bitcode_shapes.specs.LawfulLists.{zip_length}
+use Rattle.bitcode_shapes.specs.Shape.{Shape}
+use Rattle.bitcode_coder.specs.Coder.{TakesEach}
+use Rattle.bitcode_coder.specs.Spelling.{Spells}
+use Rattle.bitcode_schema.specs.Forms.{Content}
+use Rattle.bitcode_schema.specs.Making.{MakesAs, MakesData}
+use Rattle.bitcode_schema.specs.Views.{Hold}
+use Rattle.bitcode_untyped.specs.declared.value.Value.{Value}
+
+held_made : (content : Content) (ds : List Datum) (values : List Value) → AllZip (MakesAs content) ds values → Hold content values ds
+held_made content [] [] all = tt
+held_made content [] (v ∷ values) all = absurd all
+held_made content (d ∷ ds) [] all = absurd all
+held_made content (d ∷ ds) (v ∷ values) all = (all.0, held_made content ds values all.1)
+
+pub makes_all : (shape : Shape) (content : Content) (k : ℕ) (old new : List ℕ) (held left : List Datum) (values : List Value)
+    → Reads (Spells shape) k old held new → TakesEach (MakesAs content) k values held left → MakesData shape content k old new values
+makes_all shape content k old new held left values read taken =
+    let parts : length taken.parts ≡ length values = zip_length (MakesAs content) taken.parts values taken.made in
+    let none : left ≡ [] =
+    nil_from_length left (omega (arith, parts, taken.size, read.size, ap length taken.taken, length-append taken.parts left)) in
+    let all : held ≡ taken.parts = taken.taken ∙ ap (λ ds. taken.parts ++ ds) none ∙ append-nil taken.parts in
+    record { found = held; read = read; made = subst (Hold content values) (sym all) (held_made content taken.parts values taken.made) }
