@@ -33,3 +33,4 @@ pub mod OneLemmas
 pub mod CutLemmas
 pub mod MakingLemmas
 pub mod DealLemmas
+pub mod HeldLemmas

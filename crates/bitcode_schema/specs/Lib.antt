@@ -12,5 +12,5 @@ pub mod Cases
 pub mod Allowing
 pub mod Parts
 pub mod Encoding
-pub mod LeafValues
 pub mod Making
+pub mod LeafValues

@@ -14,9 +14,11 @@ ghost use Rattle.bitcode_untyped.specs.declared.value.Value.TheOpen.{Value-F};
 ghost use Rattle.bitcode_untyped.specs.declared.value.Value.TheVariants as value;
 ghost use Rattle.bitcode_schema.specs.Forms.{Content, leaf_content};
 ghost use Rattle.bitcode_schema.specs.Leaves.{int_leaf};
-ghost use Rattle.bitcode_schema.specs.LeafValues.{leaf_made};
+ghost use Rattle.bitcode_schema.specs.Making.{payload_unit};
+ghost use Rattle.bitcode_schema.specs.LeafValues.{leaf_made, unit_made};
 ghost use Rattle.bitcode_schema.specs.declared.schema.IntKind.TheVariants as int;
 
+use bitcode_shapes::nanosecond::Nanosecond;
 use bitcode_shapes::shaped::Shaped;
 use bitcode_untyped::value::Value;
 use std::num::{
@@ -45,6 +47,31 @@ pub(crate) struct OfCase;
 
 /// The case of the integer that is not 0.
 pub(crate) struct OfNonZero;
+
+impl Becomes<()> for OfCase {
+    ghost content = { payload_unit };
+
+    ghost held = { λ t. value.Unit };
+
+    fn value(_t: ()) -> Value {
+        Value::Unit
+    }
+
+    ghost made = { λ t d is. unit_made d is };
+}
+
+impl Becomes<Nanosecond> for OfCase {
+    ghost content = { leaf_content (Some (int_leaf int.U32)) };
+
+    ghost held = { λ t. value.U32 t.nanos };
+
+    fn value(t: Nanosecond) -> Value {
+        Value::U32(t.into_inner())
+    }
+
+    ghost made = { λ t d is. leaf_made (Some (int_leaf int.U32)) (Value-F.U32 t.nanos)
+        (value.U32 t.nanos) d _ (value.rolls-U32 t.nanos) refl is };
+}
 
 impl Becomes<bool> for OfCase {
     ghost content = { leaf_content (Some (leaf_of bools)) };

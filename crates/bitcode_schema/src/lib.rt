@@ -7,6 +7,7 @@ mod choices;
 mod deal;
 pub mod encode;
 mod gather;
+mod leaf_values;
 mod leaves;
 mod limits;
 mod make;

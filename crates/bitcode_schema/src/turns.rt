@@ -22,6 +22,9 @@ pub(crate) struct AsTuple;
 /// A unit becomes an empty tuple.
 pub(crate) struct AsNoFields;
 
+/// Seconds and nanoseconds become a duration.
+pub(crate) struct AsSpan;
+
 /// A payload becomes an enum of variant 0.
 pub(crate) struct AsFirst;
 
@@ -74,6 +77,19 @@ impl Turns<Value, Value> for AsNoFields {
         ensures { IfOk result (λ value. fields_of value ≡ Some []) }
     {
         Ok(Value::Tuple(Vec::new(alloc)))
+    }
+}
+
+impl Turns<(Value, Value), Value> for AsSpan {
+    ghost turned = { λ value parts. fields_of value ≡ Some (parts.0 ∷ parts.1 ∷ []) };
+
+    fn turn(alloc: Global, item: (Value, Value)) -> Result<Value, Error>
+        ensures { IfOk result (λ value. fields_of value ≡ Some (item.0 ∷ item.1 ∷ [])) }
+    {
+        let mut fields = Vec::with_capacity(alloc, 2)?;
+        fields.push_reserved(item.0);
+        fields.push_reserved(item.1);
+        Ok(Value::Tuple(fields))
     }
 }
 

@@ -6,7 +6,7 @@ use Rattle.bitcode_schema.proofs.deal.deal.Given as goal
 
 abbrev pub invariant-loop-i : goal.invariant-loop-i
 invariant-loop-i l = record {
-  dealt : DealtTo l.variants.now (map (λ p. p.items) l.fn.payloads.items) (drop l.i l.variants.now) (map (λ p. p.items) l.payloads.items) l.choices.items;
+  dealt : DealtTo l.variants (map (λ p. p.items) l.fn.payloads.items) (drop l.i l.variants) (map (λ p. p.items) l.payloads.items) l.choices.items;
   len : deque_len l.choices ≡ l.i;
   room : l.k ≤ deque_capacity l.choices;
 }

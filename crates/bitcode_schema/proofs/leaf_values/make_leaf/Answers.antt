@@ -1,7 +1,7 @@
 -- All data that were read are made values.
 use Rattle.std.proofs.lemmas.Result.{IfOk-weaker}
 use Rattle.bitcode_schema.proofs.MakingLemmas.{makes_all}
-use Rattle.bitcode_schema.proofs.make.make_leaf.Goals as goal
+use Rattle.bitcode_schema.proofs.leaf_values.make_leaf.Goals as goal
 
 pub returns : goal.returns
 returns g c = record {

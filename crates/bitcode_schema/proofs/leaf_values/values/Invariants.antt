@@ -3,7 +3,7 @@ use Rattle.std.specs.Prelude.{◌≡◌, ◌≤◌}
 use Rattle.std.specs.VecDeque.{deque_len, deque_capacity}
 use Rattle.bitcode_coder.specs.Coder.{TakesEach}
 use Rattle.bitcode_schema.specs.Making.{MakesAs}
-use Rattle.bitcode_schema.proofs.make.values.Given as goal
+use Rattle.bitcode_schema.proofs.leaf_values.values.Given as goal
 
 abbrev pub invariant-loop-made : goal.invariant-loop-made
 invariant-loop-made g l = record {

@@ -2,7 +2,7 @@
 use Rattle.std.proofs.Common.{arith}
 use Rattle.bitcode_coder.proofs.TakingLemmas.{takes_none, takes_one_more, taken_and_left}
 use Rattle.bitcode_schema.specs.Making.{MakesAs}
-use Rattle.bitcode_schema.proofs.make.values.Goals as goal
+use Rattle.bitcode_schema.proofs.leaf_values.values.Goals as goal
 
 pub loop-made-init : goal.loop-made-init
 loop-made-init g c = record {

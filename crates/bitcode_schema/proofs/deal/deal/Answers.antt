@@ -1,0 +1,2 @@
+-- Each turn deals one payload.
+use Rattle.bitcode_schema.proofs.deal.deal.Goals as goal
