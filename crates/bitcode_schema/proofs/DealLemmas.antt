@@ -36,13 +36,13 @@ pub dealt_all : (all : List ℕ) (before : List (List Value)) (left : List ℕ) 
 dealt_all all before left now choices done none =
     subst (AreDealt all before) (append-nil choices) (done.more [] (subst (λ vs. AreDealt vs now []) (sym none) refl))
 
-pub left_from : (xs : List ℕ) (i next x : ℕ) → next ≡ suc i → i < length xs → x ≡ get_or xs i x → drop i xs ≡ x ∷ drop next xs
-left_from xs i next x after below is = from xs i below is ∙ ap (λ n. x ∷ drop n xs) (sym after)
+pub left_from : (xs : List ℕ) (i next d : ℕ) → next ≡ suc i → i < length xs → drop i xs ≡ get_or xs i d ∷ drop next xs
+left_from xs i next d after below = from xs i below ∙ ap (λ n. get_or xs i d ∷ drop n xs) (sym after)
   where
-    from : (ys : List ℕ) (j : ℕ) → j < length ys → x ≡ get_or ys j x → drop j ys ≡ x ∷ drop (suc j) ys
-    from [] j lt e = absurd (omega (arith, lt))
-    from (y ∷ ys) zero lt e = ap (λ z. z ∷ ys) (sym e)
-    from (y ∷ ys) (suc j) lt e = from ys j (let h : suc j < suc (length ys) = lt in omega arith) e
+    from : (ys : List ℕ) (j : ℕ) → j < length ys → drop j ys ≡ get_or ys j d ∷ drop (suc j) ys
+    from [] j lt = absurd (omega (arith, lt))
+    from (y ∷ ys) zero lt = refl
+    from (y ∷ ys) (suc j) lt = from ys j (let h : suc j < suc (length ys) = lt in omega arith)
 
 pub mapped_at : {A B : Type 0} (f : A → B) (xs : List A) (i : ℕ) (a : A) (b : B) → i < length xs → a ≡ get_or xs i a → slice_index_or (map f xs) i b ≡ f a
 mapped_at f [] i a b lt e = absurd (omega (arith, lt))

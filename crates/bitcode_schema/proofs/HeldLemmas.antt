@@ -1,10 +1,11 @@
 -- What values hold that are made of others.
-use Rattle.std.proofs.Common.{◌≡◌, ℕ, zero, suc, ◌<◌, ◌*◌, ◌^◌, leb, Option, Some, None, List, [], ◌∷◌, ◌++◌, length, take, drop, map, sum, replicate, refl, sym, ap, ap₂, subst, ◌∙◌, ⊎_elim}
+use Rattle.std.proofs.Common.{◌≡◌, ℕ, Bool, All, ◌/◌, zero, suc, ◌<◌, ◌*◌, ◌^◌, leb, Option, Some, None, List, [], ◌∷◌, ◌++◌, length, take, drop, map, sum, replicate, arith, length-append, ◌+◌, refl, sym, ap, ap₂, subst, ◌∙◌, ⊎_elim}
 use Rattle.std.specs.List.{AllZip}
 use Rattle.std.proofs.lemmas.Bool.{cond-true, cond-false, cases_Bool}
+use Rattle.std.proofs.lemmas.List.Elements.{All-head}
 use Rattle.bitcode_columns.specs.Reading.{Reads}
 use Rattle.bitcode_shapes.specs.Datum.{Datum, list, pair, data_of}
-use Rattle.bitcode_shapes.specs.Shape.{Shape, seq_shape, map_shape, array_shape, pair_shape}
+use Rattle.bitcode_shapes.specs.Shape.{Shape, IsOf, never_shape, seq_shape, map_shape, array_shape, pair_shape}
 use Rattle.bitcode_coder.specs.Cutting.{cut}
 use Rattle.bitcode_coder.specs.LengthColumn.{SpellsLengths}
 use Rattle.bitcode_coder.specs.Spelling.{Spells}
@@ -14,9 +15,15 @@ use Rattle.bitcode_parts.proofs.ListLemmas.{reads_sequence}
 use Rattle.bitcode_derive.proofs.MapReadingLemmas.{reads_map}
 use Rattle.bitcode_tuples.specs.Pairs.{pairs_of}
 use Rattle.bitcode_tuples.proofs.ReadingLemmas.{reads_pairs}
-use Rattle.bitcode_schema.specs.Forms.{Content, both, list_content, pair_content}
-use Rattle.bitcode_schema.specs.Making.{MakesData}
-use Rattle.bitcode_schema.specs.Views.{Hold, under}
+use Rattle.bitcode_schema.specs.Forms.{Content, changed, both, list_content, pair_content, fields_content, fields_datum, leaf_content, span_contents}
+use Rattle.bitcode_schema.specs.Leaves.{int_leaf}
+use Rattle.bitcode_schema.specs.Reading.{ReadsData}
+use Rattle.bitcode_schema.specs.declared.schema.IntKind.TheVariants as int
+use Rattle.bitcode_schema.specs.Making.{MakesData, optional}
+use Rattle.bitcode_schema.specs.Views.{Hold, under, fields_of}
+use Rattle.std.proofs.Math.Seq.{take-append_seam, drop-append_seam, take-length}
+use Rattle.bitcode_schema.specs.Parts.{row_content}
+use Rattle.bitcode_schema.proofs.RowLemmas.{fields_size, whole_row, rows_pair}
 use Rattle.bitcode_schema.proofs.HoldLemmas.{hold_length, hold_map, hold_under, hold_same, list_held}
 use Rattle.bitcode_untyped.specs.declared.value.Value.{Value}
 
@@ -120,3 +127,64 @@ module _ {A B : Type 0} (p : A → Option Datum) (q : B → Option Datum) (s t :
 pub makes_maps : (content : Content) (s t : Shape) (k : ℕ) (old new : List ℕ) (values : List Value)
     → MakesData (seq_shape None (pair_shape s t)) content k old new values → MakesData (map_shape s t) content k old new values
 makes_maps content s t k old new values m = record { found = m.found; read = reads_map s t k old new m.found m.read; made = m.made }
+
+-- ---- nothing
+
+pub makes_none : {A : Type 0} (content : A → Option Datum) (k : ℕ) (old new : List ℕ) (strict w : Bool) (xs : List A) → ReadsData never_shape k strict old new w → xs ≡ []
+    → MakesData never_shape content k old new xs
+makes_none content k old new strict w xs r none = record { found = r.found; read = r.read; made = subst (λ ys. Hold content ys r.found) (sym none) (nothing r.found r.read.spelled.of_shape) }
+  where
+    nothing : (ds : List Datum) → All (IsOf never_shape) ds → Hold content [] ds
+    nothing [] each = tt
+    nothing (d ∷ ds) each = absurd (All-head (IsOf never_shape) d ds each)
+
+-- ---- fields
+
+-- a row of one field
+pub one_row : (c : Content) (row : List Value) (v : Value) (d : Datum) → row ≡ v ∷ [] → c v ≡ Some d → fields_content (c ∷ []) row ≡ Some d
+one_row c row v d is h = ap (fields_content (c ∷ [])) is ∙ ap (λ o. changed fields_datum (both (λ e es. e ∷ es) o (Some []))) h
+
+-- two parts of a row
+pub two_rows : (front back : List Content) (row first second : List Value) (d : Datum) → 1 < length (front ++ back) → length front ≡ length (front ++ back) / 2
+    → row ≡ first ++ second → both pair (fields_content front first) (fields_content back second) ≡ Some d → fields_content (front ++ back) row ≡ Some d
+two_rows front back row first second d some half is h =
+    let whole = first ++ second in
+    let each = split (fields_content front first) (fields_content back second) h in
+    let long : length first ≡ length front = fields_size front first each.0 each.1.1.0 in
+    let rest : length second ≡ length back = fields_size back second each.1.0 each.1.1.1 in
+    let here : take (length front) whole ≡ first = ap (λ n. take n whole) (sym long) ∙ take-append_seam first second in
+    let there : take (length back) (drop (0 + length front) whole) ≡ second =
+    ap (take (length back)) (ap (λ n. drop n whole) (let e : 0 + length front ≡ length first = omega (arith, long) in e) ∙ drop-append_seam first second)
+    ∙ ap (λ n. take n second) (sym rest) ∙ take-length second in
+    let all : length row ≡ length (front ++ back) =
+    ap length is ∙ (let e : length whole ≡ length (front ++ back) = omega (arith, length-append first second, length-append front back, long, rest) in e) in
+    sym (whole_row (front ++ back) row all) ∙ ap (row_content (front ++ back) 0) is ∙ sym (rows_pair front back 0 whole some half)
+    ∙ ap₂ (λ xs ys. both pair (fields_content front xs) (fields_content back ys)) here there ∙ h
+  where
+    split : (o p : Option Datum) → both pair o p ≡ Some d → (e : Datum) × ((f : Datum) × ((o ≡ Some e) × (p ≡ Some f)))
+    split (Some e) (Some f) k = (e, (f, (refl, refl)))
+    split (Some e) None k = cc
+    split None p k = cc
+
+-- seconds and nanoseconds
+pub span_row : (value : Value) (a b : Value) (d : Datum) → fields_of value ≡ Some (a ∷ b ∷ [])
+    → both pair (leaf_content (Some (int_leaf int.U64)) a) (leaf_content (Some (int_leaf int.U32)) b) ≡ Some d
+    → under (fields_of value) (fields_content span_contents) ≡ Some d
+span_row value a b d is h =
+    ap (λ o. under o (fields_content span_contents)) is ∙ span (leaf_content (Some (int_leaf int.U64)) a) (leaf_content (Some (int_leaf int.U32)) b) h
+  where
+    span : (o p : Option Datum) → both pair o p ≡ Some d → changed fields_datum (both (λ e es. e ∷ es) o (both (λ e es. e ∷ es) p (Some []))) ≡ Some d
+    span (Some e) (Some f) k = k
+    span (Some e) None k = cc
+    span None p k = cc
+
+-- ---- options
+
+pub optional_some : (variant : ℕ) (payload : Value) → 0 < variant → optional variant payload ≡ Some payload
+optional_some zero payload some = absurd (omega (arith, some))
+optional_some (suc variant) payload some = refl
+
+-- ---- how many
+
+pub made_length : {A : Type 0} (content : A → Option Datum) (s : Shape) (k : ℕ) (old new : List ℕ) (xs : List A) → MakesData s content k old new xs → length xs ≡ k
+made_length content s k old new xs m = hold_length content xs m.found m.made ∙ m.read.size

@@ -53,9 +53,9 @@ loop-made-preserved c =
     record {
       each =
           pieces_next holds (replicate k size) c.args.elements.items size (replicate (k - c.loop-made._made) size) left
-          c.loop-made.elements.items front.items c.take.new.values.items c.loop-made.values.items c.push_back_reserved.new.self.items c.whole.result
+          c.loop-made.elements.items front.items c.take.new.items.items c.loop-made.values.items c.push_back_reserved.new.self.items c.whole.result
           c.loop-made.invariant.each lengths taken long c.whole.ensures c.push_back_reserved.ensures.items;
-      enough = omega (arith, c.loop-made.invariant.enough, one.0, ap length taken, length-append front.items c.take.new.values.items, long);
+      enough = omega (arith, c.loop-made.invariant.enough, one.0, ap length taken, length-append front.items c.take.new.items.items, long);
       len = omega (arith, c.push_back_reserved.ensures.len, c.loop-made.invariant.len);
       room = omega (arith, c.push_back_reserved.ensures.capacity, c.loop-made.invariant.room);
     }
