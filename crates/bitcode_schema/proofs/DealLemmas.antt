@@ -102,8 +102,8 @@ module _ (contents : List Content) where
       let h : Hold c.0 (choice.1 ∷ deals.left) (payloads_of v datas) = subst (λ xs. Hold c.0 xs (payloads_of v datas)) deals.first (each v c.0 c.1) in
       one_dealt v variants datas c.0 choice choices deals.left dealt.1.0 c.1 (payloads_of v datas) h
       (λ es k.
-          dealt_held variants dealt.0 (slice_set datas v es) choices (All-tail (λ n. n < length contents) v variants below)
-          (ap length deals.rest ∙ length-set lists v deals.left ∙ many) (length-set datas v es ∙ few)
-          (subst (λ ls. HoldEach ls (slice_set datas v es)) (sym deals.rest)
-          (set_both lists datas v deals.left es c.0 (subst (λ n. v < n) (sym many) here) (subst (λ n. v < n) (sym few) here) c.1 k each))
-          dealt.1.1.1)
+      dealt_held variants dealt.0 (slice_set datas v es) choices (All-tail (λ n. n < length contents) v variants below)
+      (ap length deals.rest ∙ length-set lists v deals.left ∙ many) (length-set datas v es ∙ few)
+      (subst (λ ls. HoldEach ls (slice_set datas v es)) (sym deals.rest)
+      (set_both lists datas v deals.left es c.0 (subst (λ n. v < n) (sym many) here) (subst (λ n. v < n) (sym few) here) c.1 k each))
+      dealt.1.1.1)

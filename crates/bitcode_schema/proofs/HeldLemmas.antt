@@ -1,5 +1,5 @@
 -- What values hold that are made of others.
-use Rattle.std.proofs.Common.{◌≡◌, ℕ, Bool, All, ◌/◌, zero, suc, ◌<◌, ◌*◌, ◌^◌, leb, Option, Some, None, List, [], ◌∷◌, ◌++◌, length, take, drop, map, sum, replicate, arith, length-append, ◌+◌, refl, sym, ap, ap₂, subst, ◌∙◌, ⊎_elim}
+use Rattle.std.proofs.Common.{Box, Global, ◌≡◌, ℕ, Bool, All, ◌/◌, zero, suc, ◌<◌, ◌*◌, ◌^◌, leb, Option, Some, None, List, [], ◌∷◌, ◌++◌, length, take, drop, map, sum, replicate, arith, length-append, ◌+◌, refl, sym, ap, ap₂, subst, ◌∙◌, ⊎_elim}
 use Rattle.std.specs.List.{AllZip}
 use Rattle.std.proofs.lemmas.Bool.{cond-true, cond-false, cases_Bool}
 use Rattle.std.proofs.lemmas.List.Elements.{All-head}
@@ -20,12 +20,15 @@ use Rattle.bitcode_schema.specs.Leaves.{int_leaf}
 use Rattle.bitcode_schema.specs.Reading.{ReadsData}
 use Rattle.bitcode_schema.specs.declared.schema.IntKind.TheVariants as int
 use Rattle.bitcode_schema.specs.Making.{MakesData, optional}
-use Rattle.bitcode_schema.specs.Views.{Hold, under, fields_of}
+use Rattle.bitcode_schema.specs.Views.{Hold, under, fields_of, boxed, option_held, option_of}
 use Rattle.std.proofs.Math.Seq.{take-append_seam, drop-append_seam, take-length}
 use Rattle.bitcode_schema.specs.Parts.{row_content}
 use Rattle.bitcode_schema.proofs.RowLemmas.{fields_size, whole_row, rows_pair}
 use Rattle.bitcode_schema.proofs.HoldLemmas.{hold_length, hold_map, hold_under, hold_same, list_held}
 use Rattle.bitcode_untyped.specs.declared.value.Value.{Value}
+use Rattle.bitcode_untyped.specs.declared.value.Value.TheOpen.{Value-F}
+use Rattle.bitcode_untyped.specs.declared.value.Value.TheVariants as value
+use Rattle.bitcode_untyped.specs.declared.value.Value.TheViews.{out-roll-Value}
 
 -- ---- each of one of the others
 
@@ -167,10 +170,10 @@ two_rows front back row first second d some half is h =
     split None p k = cc
 
 -- seconds and nanoseconds
-pub span_row : (value : Value) (a b : Value) (d : Datum) → fields_of value ≡ Some (a ∷ b ∷ [])
+pub span_row : (whole : Value) (a b : Value) (d : Datum) → fields_of whole ≡ Some (a ∷ b ∷ [])
     → both pair (leaf_content (Some (int_leaf int.U64)) a) (leaf_content (Some (int_leaf int.U32)) b) ≡ Some d
-    → under (fields_of value) (fields_content span_contents) ≡ Some d
-span_row value a b d is h =
+    → under (fields_of whole) (fields_content span_contents) ≡ Some d
+span_row whole a b d is h =
     ap (λ o. under o (fields_content span_contents)) is ∙ span (leaf_content (Some (int_leaf int.U64)) a) (leaf_content (Some (int_leaf int.U32)) b) h
   where
     span : (o p : Option Datum) → both pair o p ≡ Some d → changed fields_datum (both (λ e es. e ∷ es) o (both (λ e es. e ∷ es) p (Some []))) ≡ Some d
@@ -179,6 +182,9 @@ span_row value a b d is h =
     span None p k = cc
 
 -- ---- options
+
+pub option_made : (held : Option (Box Value Global)) → option_of (value.Option held) ≡ Some (boxed held)
+option_made held = ap option_of (sym (value.rolls-Option held)) ∙ ap option_held (out-roll-Value (Value-F.Option held))
 
 pub optional_some : (variant : ℕ) (payload : Value) → 0 < variant → optional variant payload ≡ Some payload
 optional_some zero payload some = absurd (omega (arith, some))

@@ -142,16 +142,36 @@ pub(crate) fn make_nonzeros<'a>(
         input.old.now input.new.now values.items) }
 {
     match kind {
-        IntKind::U8 => make_leaf::<NonZeroU8, CheckedIntDecoder<NonZeroU8, u8>, OfNonZero>(alloc, input, k),
-        IntKind::U16 => make_leaf::<NonZeroU16, CheckedIntDecoder<NonZeroU16, u16>, OfNonZero>(alloc, input, k),
-        IntKind::U32 => make_leaf::<NonZeroU32, CheckedIntDecoder<NonZeroU32, u32>, OfNonZero>(alloc, input, k),
-        IntKind::U64 => make_leaf::<NonZeroU64, CheckedIntDecoder<NonZeroU64, u64>, OfNonZero>(alloc, input, k),
-        IntKind::U128 => make_leaf::<NonZeroU128, CheckedIntDecoder<NonZeroU128, u128>, OfNonZero>(alloc, input, k),
-        IntKind::I8 => make_leaf::<NonZeroI8, CheckedIntDecoder<NonZeroI8, i8>, OfNonZero>(alloc, input, k),
-        IntKind::I16 => make_leaf::<NonZeroI16, CheckedIntDecoder<NonZeroI16, i16>, OfNonZero>(alloc, input, k),
-        IntKind::I32 => make_leaf::<NonZeroI32, CheckedIntDecoder<NonZeroI32, i32>, OfNonZero>(alloc, input, k),
-        IntKind::I64 => make_leaf::<NonZeroI64, CheckedIntDecoder<NonZeroI64, i64>, OfNonZero>(alloc, input, k),
-        IntKind::I128 => make_leaf::<NonZeroI128, CheckedIntDecoder<NonZeroI128, i128>, OfNonZero>(alloc, input, k),
+        IntKind::U8 => make_leaf::<NonZeroU8, CheckedIntDecoder<NonZeroU8, u8>, OfNonZero>(
+            alloc, input, k,
+        ),
+        IntKind::U16 => make_leaf::<NonZeroU16, CheckedIntDecoder<NonZeroU16, u16>, OfNonZero>(
+            alloc, input, k,
+        ),
+        IntKind::U32 => make_leaf::<NonZeroU32, CheckedIntDecoder<NonZeroU32, u32>, OfNonZero>(
+            alloc, input, k,
+        ),
+        IntKind::U64 => make_leaf::<NonZeroU64, CheckedIntDecoder<NonZeroU64, u64>, OfNonZero>(
+            alloc, input, k,
+        ),
+        IntKind::U128 => make_leaf::<NonZeroU128, CheckedIntDecoder<NonZeroU128, u128>, OfNonZero>(
+            alloc, input, k,
+        ),
+        IntKind::I8 => make_leaf::<NonZeroI8, CheckedIntDecoder<NonZeroI8, i8>, OfNonZero>(
+            alloc, input, k,
+        ),
+        IntKind::I16 => make_leaf::<NonZeroI16, CheckedIntDecoder<NonZeroI16, i16>, OfNonZero>(
+            alloc, input, k,
+        ),
+        IntKind::I32 => make_leaf::<NonZeroI32, CheckedIntDecoder<NonZeroI32, i32>, OfNonZero>(
+            alloc, input, k,
+        ),
+        IntKind::I64 => make_leaf::<NonZeroI64, CheckedIntDecoder<NonZeroI64, i64>, OfNonZero>(
+            alloc, input, k,
+        ),
+        IntKind::I128 => make_leaf::<NonZeroI128, CheckedIntDecoder<NonZeroI128, i128>, OfNonZero>(
+            alloc, input, k,
+        ),
     }
 }
 
@@ -203,7 +223,9 @@ pub(crate) fn make_durations<'a>(
         input.old.now input.new.now values.items) }
 {
     let seconds = make_leaf::<u64, IntDecoder<u64>, OfCase>(alloc, input, k)?;
-    let nanos = make_leaf::<Nanosecond, CheckedIntDecoder<Nanosecond, u32>, OfCase>(alloc, input, k)?;
+    let nanos = make_leaf::<Nanosecond, CheckedIntDecoder<Nanosecond, u32>, OfCase>(
+        alloc, input, k,
+    )?;
     let spans = zipped(alloc, seconds, nanos)?;
     each::<(Value, Value), Value, AsSpan>(alloc, spans)
 }

@@ -10,7 +10,6 @@ mod gather;
 mod leaf_values;
 mod leaves;
 mod limits;
-mod make;
 mod parts;
 mod read;
 pub mod schema;

@@ -21,11 +21,11 @@ pub returns : goal.returns
 returns c = record {
   made = IfOk-weaker c.each.result _ _
       (λ values each.
-          makes_through (λ value parts. fields_of value ≡ Some (parts.0 ∷ parts.1 ∷ []))
-          (λ parts. both pair (leaf_content (Some (int_leaf int.U64)) parts.0) (leaf_content (Some (int_leaf int.U32)) parts.1))
-          (λ v. under (fields_of v) (fields_content span_contents)) (λ value parts d is h. span_row value parts.0 parts.1 d is h)
-          duration_shape c.args.k _ _ values.items c.in_ok-spans.spans.items each
-          (makes_pairs (leaf_content (Some (int_leaf int.U64))) (leaf_content (Some (int_leaf int.U32))) (int_shape 8 false) nanosecond_shape c.args.k _ _ _ _ _
-          c.in_ok-seconds.ensures.made c.in_ok-nanos.ensures.made c.in_ok-spans.spans.items c.in_ok-spans.ensures.firsts c.in_ok-spans.ensures.seconds))
+      makes_through (λ value parts. fields_of value ≡ Some (parts.0 ∷ parts.1 ∷ []))
+      (λ parts. both pair (leaf_content (Some (int_leaf int.U64)) parts.0) (leaf_content (Some (int_leaf int.U32)) parts.1))
+      (λ v. under (fields_of v) (fields_content span_contents)) (λ value parts d is h. span_row value parts.0 parts.1 d is h)
+      duration_shape c.args.k _ _ values.items c.in_ok-spans.spans.items each
+      (makes_pairs (leaf_content (Some (int_leaf int.U64))) (leaf_content (Some (int_leaf int.U32))) (int_shape 8 false) nanosecond_shape c.args.k _ _ _ _ _
+      c.in_ok-seconds.ensures.made c.in_ok-nanos.ensures.made c.in_ok-spans.spans.items c.in_ok-spans.ensures.firsts c.in_ok-spans.ensures.seconds))
       c.each.ensures;
 }

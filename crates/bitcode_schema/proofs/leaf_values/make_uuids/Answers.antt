@@ -20,7 +20,7 @@ returns c =
     record {
       made = IfOk-weaker c.arrays.result _ _
           (λ values h.
-              makes_arrays (leaf_content (Some (int_leaf int.U8))) elements_of (int_shape 1 false) c.args.k _ _ c.in_ok-bytes.bytes.items values.items 16 few
-              (rw c.in_ok-count.ensures.product at c.in_ok-bytes.ensures.made) h)
+          makes_arrays (leaf_content (Some (int_leaf int.U8))) elements_of (int_shape 1 false) c.args.k _ _ c.in_ok-bytes.bytes.items values.items 16 few
+          (rw c.in_ok-count.ensures.product at c.in_ok-bytes.ensures.made) h)
           c.arrays.ensures.made;
     }
