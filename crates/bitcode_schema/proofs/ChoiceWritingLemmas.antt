@@ -53,7 +53,7 @@ there_below [] i below = absurd (omega arith)
 there_below (p ∷ ps) zero below = (p, refl)
 there_below (p ∷ ps) (suc i) below = there_below ps i (let k : suc i < suc (length ps) = below in omega arith)
 
-below_there : {A : Type 0} (ps : List A) (i : ℕ) (p : A) → slice_get ps i ≡ Some p → i < length ps
+pub below_there : {A : Type 0} (ps : List A) (i : ℕ) (p : A) → slice_get ps i ≡ Some p → i < length ps
 below_there [] i p there = cc
 below_there (q ∷ ps) zero p there = omega arith
 below_there (q ∷ ps) (suc i) p there = let k = below_there ps i p there in omega arith

@@ -51,7 +51,7 @@ mapped_at f (x ∷ xs) (suc i) a b lt e = mapped_at f xs i a b (let h : suc i < 
 
 -- ---- what choices hold
 
-cases_same : (i v : ℕ) → (i ≡ v) ⊎ (i ≢ v)
+pub cases_same : (i v : ℕ) → (i ≡ v) ⊎ (i ≢ v)
 cases_same i v = elim (cases_Bool (i == v)) [
   | inl same ↦ inl (same_number i v same)
   | inr other ↦ inr (λ e. false≢true (sym other ∙ ap (λ n. n == v) e ∙ is_itself v))

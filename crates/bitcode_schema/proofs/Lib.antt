@@ -34,3 +34,4 @@ pub mod CutLemmas
 pub mod MakingLemmas
 pub mod DealLemmas
 pub mod HeldLemmas
+pub mod PayloadMakingLemmas

@@ -16,7 +16,9 @@ use Rattle.bitcode_schema.specs.Forms.{Content}
 use Rattle.bitcode_schema.specs.Making.{MakesData, AreDealt}
 use Rattle.bitcode_schema.specs.Parts.{choice_under}
 use Rattle.bitcode_schema.specs.Views.{Hold}
-use Rattle.bitcode_schema.proofs.DealLemmas.{dealt_held}
+use Rattle.bitcode_schema.proofs.DealLemmas.{cases_same, dealt_held}
+use Rattle.bitcode_schema.proofs.ChoiceWritingLemmas.{below_there}
+use Rattle.bitcode_schema.proofs.HoldLemmas.{some_same}
 use Rattle.bitcode_untyped.specs.declared.value.Value.{Value}
 
 at_end : (values : List (List Value)) (one : List Value) (n : ℕ) → n ≡ length values → slice_index_or (values ++ one ∷ []) n [] ≡ one
@@ -62,10 +64,33 @@ module _ (ss : Shapes) (contents : List Content) (count : ℕ) (entries middle :
           many = omega (arith, length-append values (one ∷ []), before.many);
           read = read_next ss entries middle variant before.lists now before.read (subst (λ n. variant < n) (sym known) below) lists new within others
               (subst (λ ds. Reads (Spells (shape_at variant ss)) (count_of variant entries) now ds new) (sym here) m.read);
-          held = λ i content lt at. either i content lt at (cases_same i variant);
+          held = λ i content lt at.
+              elim (cases_same i variant) [
+                | inl same ↦
+                    let mine : c ≡ content = some_same (sym there ∙ ap (slice_get contents) (sym same) ∙ at) in
+                    subst (λ n. Hold content (slice_index_or (values ++ one ∷ []) n []) (payloads_of n lists)) (sym same)
+                    (subst (λ xs. Hold content xs (payloads_of variant lists)) (sym (at_end values one variant (sym before.many)))
+                    (subst (Hold content one) (sym here) (subst (λ d. Hold d one m.found) mine m.made)))
+                | inr other ↦
+                    let less : i < variant = omega (arith, lt, other) in
+                    subst (λ xs. Hold content xs (payloads_of i lists)) (sym (before_end values one i (omega (arith, less, before.many))))
+                    (subst (Hold content (slice_index_or values i [])) (sym (get_or-set_other before.lists variant i m.found [] other))
+                    (before.held i content less at))
+              ];
         })
-      where
-        either : (i : ℕ) (content : Content) → i < suc variant → slice_get contents i ≡ Some content → (i ≡ variant) ⊎ (i ≢ variant)
-            → Hold content (slice_index_or (values ++ one ∷ []) i []) (payloads_of i (slice_set before.lists variant m.found))
-        either i content lt at (inl same) = ?
-        either i content lt at (inr other) = ?
+
+    -- the choices hold the data that were read
+    pub choices_made : (variant : ℕ) (now : List ℕ) (values : List (List Value)) (choices : List (ℕ × Value)) (k : ℕ) (old : List ℕ)
+        → PayloadsTo variant now values → count ≤ variant → length values ≡ count → All (λ v. v < length contents) entries
+        → Reads (SpellsVariants count) k old entries middle → AreDealt entries values choices
+        → MakesData (choice_shape ss) (choice_under contents) k old now choices
+    choices_made variant now values choices k old done past many below column dealt =
+        let all =
+        read_all ss entries middle variant done.lists now done.read (subst (λ n. n ≤ variant) (sym known) past) (subst (λ n. n ≤ variant) (sym done.size) past) in
+        record {
+          found = choices_of entries done.lists;
+          read = reads_enum ss count k old known entries middle column done.lists now all;
+          made = dealt_held contents entries values done.lists choices below (many ∙ sym among) (done.size ∙ sym among)
+              (λ i content at. done.held i content
+              (let inside = below_there contents i content at in omega (arith, inside, among, past)) at) dealt;
+        }

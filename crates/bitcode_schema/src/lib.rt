@@ -12,6 +12,7 @@ mod leaves;
 mod limits;
 mod parts;
 mod read;
+mod make;
 pub mod schema;
 mod turns;
 mod write;
