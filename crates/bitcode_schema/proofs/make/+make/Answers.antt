@@ -95,3 +95,41 @@ make_lists-returns t c = record {
           c.args.capacity _ _ c.in_ok-lengths.ensures.read (rw (c.length.ensures, c.in_ok-lengths.ensures.sum) at c.in_ok-elements.ensures.made) h)
       c.lists.ensures.made;
 }
+
+pub make_maps-zipped-requires : goal.make_maps-zipped-requires
+make_maps-zipped-requires t c =
+    same_length (content_under c.args.key.now) (content_under c.args.value.now) (shape_of c.args.key.now) (shape_of c.args.value.now) _ _ _ _ _ _
+    (rw (c.length.ensures, c.in_ok-lengths.ensures.sum) at c.in_ok-keys.ensures.made) (rw (c.length-2.ensures, c.in_ok-lengths.ensures.sum) at c.in_ok-values.ensures.made)
+
+pub make_maps-returns : goal.make_maps-returns
+make_maps-returns t c =
+    let keys = rw (c.length.ensures, c.in_ok-lengths.ensures.sum) at c.in_ok-keys.ensures.made in
+    let values = rw (c.length-2.ensures, c.in_ok-lengths.ensures.sum) at c.in_ok-values.ensures.made in
+    let pairs =
+    makes_pairs (content_under c.args.key.now) (content_under c.args.value.now) (shape_of c.args.key.now) (shape_of c.args.value.now) _ _ _ _ _ _ keys values
+    c.in_ok-pairs.pairs.items c.in_ok-pairs.ensures.firsts c.in_ok-pairs.ensures.seconds in
+    record {
+      made = IfOk-weaker c.lists.result _ _
+          (λ maps h.
+              makes_maps _ (shape_of c.args.key.now) (shape_of c.args.value.now) c.args.k _ _ maps.items
+              (makes_lists _ pairs_of (pair_shape (shape_of c.args.key.now) (shape_of c.args.value.now)) c.args.k _ _ c.in_ok-pairs.pairs.items maps.items
+              None _ _ c.in_ok-lengths.ensures.read pairs h))
+          c.lists.ensures.made;
+    }
+
+pub make_arrays-arrays-requires : goal.make_arrays-arrays-requires
+make_arrays-arrays-requires t c =
+    sym (made_length (content_under c.args.element.now) (shape_of c.args.element.now) (c.args.k * c.args.size) _ _ _
+    (rw c.in_ok-count.ensures.product at c.in_ok-elements.ensures.made))
+
+pub make_arrays-returns : goal.make_arrays-returns
+make_arrays-returns t c =
+    let few : c.args.k * c.args.size < 2 ^ 64 =
+    (let over : 2 ^ 64 ≤ c.args.k * c.args.size → ⊥ = λ many. false≢true (c.in_ok-count.ensures.refused.1 many) in omega arith) in
+    record {
+      made = IfOk-weaker c.arrays.result _ _
+          (λ values h.
+              makes_arrays (content_under c.args.element.now) elements_of (shape_of c.args.element.now) c.args.k _ _ c.in_ok-elements.elements.items values.items
+              c.args.size few (rw c.in_ok-count.ensures.product at c.in_ok-elements.ensures.made) h)
+          c.arrays.ensures.made;
+    }
