@@ -14,7 +14,8 @@ use Rattle.bitcode_schema.specs.Views.{elements_of, pairs_of}
 use Rattle.bitcode_schema.specs.declared.schema.SchemaNode.TheVariants as node
 use Rattle.bitcode_schema.proofs.ContentLemmas.{content-Unit, content-Bool, content-Char, content-Int, content-NonZero, content-F32, content-F64, content-Str, content-Duration, content-Uuid, content-List, content-Map, content-Array}
 use Rattle.bitcode_schema.proofs.HeldLemmas.{makes_as, makes_lists, makes_arrays, makes_maps, makes_pairs, makes_through, same_length, made_length}
-use Rattle.bitcode_schema.proofs.ShapeLemmas.{shape-Unit, shape-Bool, shape-Char, shape-Int, shape-NonZero, shape-F32, shape-F64, shape-Str, shape-Duration, shape-Uuid, shape-List, shape-Map, shape-Array}
+use Rattle.bitcode_schema.proofs.PartLemmas.{few_payloads}
+use Rattle.bitcode_schema.proofs.ShapeLemmas.{length-Enum, shape-Unit, shape-Bool, shape-Char, shape-Int, shape-NonZero, shape-F32, shape-F64, shape-Str, shape-Duration, shape-Uuid, shape-List, shape-Map, shape-Array}
 use Rattle.bitcode_schema.proofs.make.+make.Goals as goal
 
 pub make-returns-in-Unit : goal.make-returns-in-Unit
@@ -133,3 +134,33 @@ make_arrays-returns t c =
               c.args.size few (rw c.in_ok-count.ensures.product at c.in_ok-elements.ensures.made) h)
           c.arrays.ensures.made;
     }
+
+pub make_fields-zipped-requires : goal.make_fields-zipped-requires
+make_fields-zipped-requires t c = same_length _ _ _ _ _ _ _ _ _ _ c.in_ok-first.ensures.made c.in_ok-second.ensures.made
+
+pub make_fields-returns-then-count-gt1 : goal.make_fields-returns-then-count-gt1
+make_fields-returns-then-count-gt1 t c = ?
+
+pub make_fields-returns-in-Some : goal.make_fields-returns-in-Some
+make_fields-returns-in-Some t c = ?
+
+pub make_tuples-returns-then-count-eq0 : goal.make_tuples-returns-then-count-eq0
+make_tuples-returns-then-count-eq0 t c = ?
+
+pub make_tuples-returns : goal.make_tuples-returns
+make_tuples-returns t c = ?
+
+pub make-make_enum-requires : goal.make-make_enum-requires
+make-make_enum-requires t c =
+    let most : c.len.result ≤ 256 =
+    (let few = few_payloads c.in-Enum.variants (rw c.in-Enum.is at c.requires.few) in omega (arith, few, c.len.ensures, c.in-Enum.variants.ok.0)) in
+    let count : length (variant_shapes c.args.node.now) ≡ c.len.result =
+    rw c.in-Enum.is (let e = length-Enum c.in-Enum.variants in omega (arith, e, c.len.ensures, c.in-Enum.variants.ok.0)) in
+    (search rules, (c.requires.few, (most, count)))
+
+pub make_enum-make_payloads-requires : goal.make_enum-make_payloads-requires
+make_enum-make_payloads-requires t c = (search rules, (c.requires.few, omega (arith, c.requires.count, c.if-count-eq1.true)))
+
+pub make_enum-make_choices-requires : goal.make_enum-make_choices-requires
+make_enum-make_choices-requires t c =
+    (search rules, (c.requires.few, ((omega (arith, c.if-count-eq0.false, c.if-count-eq1.false), c.requires.most), c.requires.count)))
