@@ -113,7 +113,8 @@ pub(crate) fn make_ints<'a>(
     k: usize,
 ) -> Result<VecDeque<Value>, Error>
     ensures made { IfOk result
-        (λ values. MakesData (int_shape (width_of kind) (is_signed kind)) (leaf_content (Some (int_leaf kind))) k
+        (λ values. MakesData (int_shape (width_of kind) (is_signed kind))
+        (leaf_content (Some (int_leaf kind))) k
         input.old.now input.new.now values.items) }
 {
     match kind {
@@ -138,7 +139,8 @@ pub(crate) fn make_nonzeros<'a>(
     k: usize,
 ) -> Result<VecDeque<Value>, Error>
     ensures made { IfOk result
-        (λ values. MakesData (nonzero_shape (width_of kind) (is_signed kind)) (leaf_content (Some (int_leaf kind))) k
+        (λ values. MakesData (nonzero_shape (width_of kind) (is_signed kind))
+        (leaf_content (Some (int_leaf kind))) k
         input.old.now input.new.now values.items) }
 {
     match kind {
@@ -183,7 +185,8 @@ fn make_limited<'a>(
     k: usize,
 ) -> Result<VecDeque<Value>, Error>
     ensures made { IfOk result
-        (λ values. MakesData (text_shape (Some limit)) (leaf_content (Some (leaf_of (texts None)))) k
+        (λ values. MakesData (text_shape (Some limit))
+        (leaf_content (Some (leaf_of (texts None)))) k
         input.old.now input.new.now values.items) }
 {
     let mut bytes = *input;
@@ -219,7 +222,8 @@ pub(crate) fn make_durations<'a>(
     k: usize,
 ) -> Result<VecDeque<Value>, Error>
     ensures made { IfOk result
-        (λ values. MakesData duration_shape (λ v. under (fields_of v) (fields_content span_contents)) k
+        (λ values. MakesData duration_shape
+        (λ v. under (fields_of v) (fields_content span_contents)) k
         input.old.now input.new.now values.items) }
 {
     let seconds = make_leaf::<u64, IntDecoder<u64>, OfCase>(alloc, input, k)?;
@@ -237,7 +241,8 @@ pub(crate) fn make_uuids<'a>(
     k: usize,
 ) -> Result<VecDeque<Value>, Error>
     ensures made { IfOk result
-        (λ values. MakesData (array_shape 16 (int_shape 1 false)) (λ v. under (elements_of v) (list_content (leaf_content (Some (int_leaf int.U8))))) k
+        (λ values. MakesData (array_shape 16 (int_shape 1 false))
+        (λ v. under (elements_of v) (list_content (leaf_content (Some (int_leaf int.U8))))) k
         input.old.now input.new.now values.items) }
 {
     let count = mul_length(k, 16)?;
