@@ -268,8 +268,9 @@ def admitted(text, item):
     words = {
         word
         for word in re.findall(r"[\w-]+", filled(CHECKED) + law)
-        if re.fullmatch(r"admits|admits-takes|admitted_data|\w+_back|(?:split|joined|again)_\d|nat_\w+|int_\w+", word)
+        if re.fullmatch(r"admits|admits-takes|admitted_data|\w+_back|(?:split|joined|again)_\d|nat_\w+", word)
     }
+    compared = set(re.findall(r"\bint_l[et]\b", filled(CHECKED) + law))
     text = re.sub(
         r"(?m)^ghost use Rattle\.bitcode\.specs\.ByHand\.\{data_as, ", "ghost use Rattle.bitcode.specs.ByHand.{", text
     )
@@ -278,7 +279,7 @@ def admitted(text, item):
         {"not"} if "not (" in row["of_parts"] else set()
     )
     signs |= {one for one in ("pos", "negsuc") if f"({one} " in row["of_parts"]}
-    text = with_names(text, "Rattle.std.specs.Prelude", {"◌≡◌", "true", "false", "MatchOption", *signs})
+    text = with_names(text, "Rattle.std.specs.Prelude", {"◌≡◌", "true", "false", "MatchOption", *signs, *compared})
     text = re.sub(r"(?m)^use bitcode::\{(.*)\};$", lambda found: uses(found[1]), text, count=1)
     return text if re.search(r"(?m)^(?!use ).*\bGlobal\b", text) else text.replace("use std::alloc::Global;\n", "")
 

@@ -1,6 +1,6 @@
 //! `Celsius` corresponds to the tuple of its fields. What is below its declaration was written by `scripts/new_type`.
-ghost use Rattle.std.specs.Prelude.{MatchOption, false, negsuc, true, ◌≡◌};
-ghost use Rattle.bitcode.specs.ByHand.{admits, admits-takes, admitted_data, field_alike, int_le, integer_back, refl};
+ghost use Rattle.std.specs.Prelude.{MatchOption, false, int_le, negsuc, true, ◌≡◌};
+ghost use Rattle.bitcode.specs.ByHand.{admits, admits-takes, admitted_data, field_alike, integer_back, refl};
 
 use bitcode::own::{DecoderOfChecked, FromChecked, HasField, InFields, Nth, StructEncoder};
 use bitcode::{DecodeOwned, HasDecoder, HasEncoder, Shaped};
