@@ -74,5 +74,5 @@ for name in short_bytes short_pair short_cow; do
   grep -q "borrow-e0597.*\`$name\` does not live long enough" "$work/log" ||
     wrong "\`$name\` is not rejected for the buffer's lifetime: $(grep -m 1 error "$work/log")"
 done
-[ "$(grep -c 'error\[' "$work/log")" -eq 2 ] || wrong "something else is refused: $(grep 'error\[' "$work/log")"
+[ "$(grep -c 'error\[' "$work/log")" -eq 3 ] || wrong "something else is refused: $(grep 'error\[' "$work/log")"
 exit 0
