@@ -67,6 +67,9 @@ def broken(line):
         is_first = not lines and is_clause(rest)
         fits = [gap for gap in gaps(rest) if margin + room // 8 < gap[0] <= WIDEST and (gap[1] > 0 or not is_first)]
         if not fits:
+            # no place within the columns: the first one behind them
+            fits = [gap for gap in gaps(rest) if gap[0] > WIDEST and (gap[1] > 0 or not is_first)][:1]
+        if not fits:
             break
         depth = min(gap[1] for gap in fits)
         fits = [gap for gap in fits if gap[1] == depth]

@@ -849,7 +849,12 @@ impl<'a> PartEncoder<Account<'a>, AccountPart2> for AccountPart2Encoder {
         (lists_both (λ t d. ⟦<u128 as Shaped>⟧.data.lists t.checksum d)
         (λ t d. ⟦<u8 as Shaped>⟧.data.lists t.rank d))) };
 
-    ghost writes_free = { ((⟦<<(i32, i32) as HasEncoder>::Encoder as Encoder<(i32, i32)>>⟧.writes_free && (⟦<<Option<Trophy> as HasEncoder>::Encoder as Encoder<Option<Trophy>>>⟧.writes_free && ⟦<<u32 as HasEncoder>::Encoder as Encoder<u32>>⟧.writes_free)) && (⟦<<u16 as HasEncoder>::Encoder as Encoder<u16>>⟧.writes_free && (⟦<<u128 as HasEncoder>::Encoder as Encoder<u128>>⟧.writes_free && ⟦<<u8 as HasEncoder>::Encoder as Encoder<u8>>⟧.writes_free))) };
+    ghost writes_free = { ((⟦<<(i32, i32) as HasEncoder>::Encoder as Encoder<(i32, i32)>>⟧.writes_free
+        && (⟦<<Option<Trophy> as HasEncoder>::Encoder as Encoder<Option<Trophy>>>⟧.writes_free &&
+        ⟦<<u32 as HasEncoder>::Encoder as Encoder<u32>>⟧.writes_free)) &&
+        (⟦<<u16 as HasEncoder>::Encoder as Encoder<u16>>⟧.writes_free &&
+        (⟦<<u128 as HasEncoder>::Encoder as Encoder<u128>>⟧.writes_free &&
+        ⟦<<u8 as HasEncoder>::Encoder as Encoder<u8>>⟧.writes_free))) };
 
     fn encode_part(&mut self, whole: &Account<'a>) -> Result<(), Error> {
         PartEncoder::<Account<'a>, Numbers2>::encode_part(&mut self.fields, whole)
@@ -937,7 +942,9 @@ impl Buffer for AccountEncoder {
 }
 
 impl<'a> Encoder<Account<'a>> for AccountEncoder {
-    ghost writes_free = { (⟦<AccountPart0Encoder as PartEncoder<Account<'a>, AccountPart0<'a>>>⟧.writes_free && (⟦<AccountPart1Encoder as PartEncoder<Account<'a>, AccountPart1>>⟧.writes_free && ⟦<AccountPart2Encoder as PartEncoder<Account<'a>, AccountPart2>>⟧.writes_free)) };
+    ghost writes_free = { (⟦<AccountPart0Encoder as PartEncoder<Account<'a>, AccountPart0<'a>>>⟧.writes_free
+        && (⟦<AccountPart1Encoder as PartEncoder<Account<'a>, AccountPart1>>⟧.writes_free &&
+        ⟦<AccountPart2Encoder as PartEncoder<Account<'a>, AccountPart2>>⟧.writes_free)) };
 
     fn encode(&mut self, t: &Account<'a>) -> Result<(), Error> {
         Encoder::<Account<'a>>::encode(&mut self.fields, t)

@@ -102,15 +102,9 @@ pub shape-Option : (b : Box SchemaNode Global) → shape_of (node.Option b) ≡ 
 shape-Option b =
     shape_rolled (SchemaNode-F.Option b) (node.Option b) (node.rolls-Option b) ∙ ap (λ ss. choice_shape (shapes_of ss)) (sym (variants-Option b))
 
-pub two-Option : (b : Box SchemaNode Global) → length (variant_shapes (node.Option b)) ≡ 2
-two-Option b = ap length (variants-Option b)
-
 pub shape-Result : (a b : Box SchemaNode Global) → shape_of (node.Result a b) ≡ choice_shape (shapes_of (variant_shapes (node.Result a b)))
 shape-Result a b =
     shape_rolled (SchemaNode-F.Result a b) (node.Result a b) (node.rolls-Result a b) ∙ ap (λ ss. choice_shape (shapes_of ss)) (sym (variants-Result a b))
-
-pub two-Result : (a b : Box SchemaNode Global) → length (variant_shapes (node.Result a b)) ≡ 2
-two-Result a b = ap length (variants-Result a b)
 
 pub shape-Enum : (v : Vec (String Global × SchemaNode) Global) → shape_of (node.Enum v) ≡ enum_shape (variant_shapes (node.Enum v))
 shape-Enum v =

@@ -8,11 +8,11 @@ use Rattle.std.proofs.lemmas.List.Sums.{list_all-from_AllPass}
 use Rattle.bitcode_memory.specs.declared.error.Reason.{Reason}
 use Rattle.bitcode_memory.specs.declared.error.Reason.TheVariants.{InvalidPacking}
 use Rattle.bitcode_columns.specs.declared.pack.Base.{Base}
-use Rattle.bitcode_columns.specs.Digits.{radix, digits_in_byte, base_for, digits_text, SpellsDigits}
-use Rattle.bitcode_columns.specs.Reading.{Reads, NamesVariantFault, variants_fault, is_variant_at, digits_fault}
-use Rattle.bitcode_columns.specs.VariantColumn.{SpellsVariants, variant_text}
+use Rattle.bitcode_columns.specs.Digits.{radix, digits_in_byte, base_for, digits_text}
+use Rattle.bitcode_columns.specs.Reading.{NamesVariantFault, variants_fault, is_variant_at, digits_fault}
+use Rattle.bitcode_columns.specs.VariantColumn.{variant_text}
 use Rattle.bitcode_columns.proofs.DigitLemmas.{some_digits}
-use Rattle.bitcode_columns.proofs.VariantColumnLemmas.{variant_text-is, are_variants, known_variants, names_unknown}
+use Rattle.bitcode_columns.proofs.VariantColumnLemmas.{variant_text-is, are_variants, names_unknown}
 use Rattle.bitcode_coder.specs.Faults.{NamesVariantsFault}
 use Rattle.bitcode_schema.specs.Variants.{ReadsDigits}
 
@@ -34,15 +34,6 @@ module _ (count : ℕ) where
 
   few : count ≤ 16 → false ≡ leb 17 count
   few h = sym (lt-leb 17 count (omega (arith, h)))
-
-  pub whole_2 : 2 ≤ count → count ≤ 2 → IsWhole 2 count
-  whole_2 some most = record { base = sym (cond-true _ _ _ (within 2 (omega (arith, some)) most)); full = at_most; raw = few (omega (arith, most)) }
-
-  pub whole_3 : count ≡ 3 → IsWhole 3 count
-  whole_3 is = subst (IsWhole 3) (sym is) (record { base = refl; full = at_most; raw = refl })
-
-  pub whole_4 : count ≡ 4 → IsWhole 4 count
-  whole_4 is = subst (IsWhole 4) (sym is) (record { base = refl; full = at_most; raw = refl })
 
   pub whole_6 : 5 ≤ count → count ≤ 6 → IsWhole 6 count
   whole_6 some most = record {
@@ -69,10 +60,6 @@ module _ (count : ℕ) where
   }
 
 module _ {whole count : ℕ} (is : IsWhole whole count) where
-  pub digits_read : {k : ℕ} {old entries new : List ℕ} → Reads (SpellsVariants whole) k old entries new → ReadsDigits count k old entries new
-  digits_read {k} {old} {entries} {new} r =
-      subst (λ b. Reads (SpellsDigits b) k old entries new) is.base (record { size = r.size; piece = r.piece; whole = r.whole; spelled = r.spelled.digits })
-
   pub same_text : (entries : List ℕ) → variant_text whole entries ≡ variant_text count entries
   same_text entries = variant_text-is whole entries ∙ ap (λ b. digits_text b entries) is.base ∙ sym (variant_text-is count entries)
 
@@ -119,13 +106,5 @@ module _ {whole count : ℕ} (is : IsWhole whole count) where
 -- ---- compared
 
 module _ {count k : ℕ} {old entries new : List ℕ} (read : ReadsDigits count k old entries new) where
-  pub variants_read : are_variants count entries ≡ true → Reads (SpellsVariants count) k old entries new
-  variants_read known = record {
-    size = read.size;
-    piece = read.piece;
-    whole = read.whole;
-    spelled = record { digits = read.spelled; known = known_variants count entries known };
-  }
-
   pub unknown_named : are_variants count entries ≡ false → NamesVariantsFault count InvalidPacking k old
   unknown_named unknown = record { named = names_unknown count k old entries new read InvalidPacking refl unknown; free = λ stands is. cc }
