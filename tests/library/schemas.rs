@@ -1,6 +1,9 @@
-//! Bytes that are checked by a schema, with the answers of the Rust crate for the type that the schema describes.
-use bitcode::{Error, Reason};
+//! Bytes that are checked and decoded by a schema, with the answers of the Rust crate for the type that the schema
+//! describes.
+use bitcode::{Error, Reason, Value};
 use bitcode_schema::check::{check_value, check_value_strict};
+use bitcode_schema::decode::{decode_value, decode_value_strict};
+use bitcode_schema::encode::encode_value;
 use bitcode_schema::schema::{IntKind, Schema, SchemaNode};
 use std::alloc::{AllocError, Global};
 use std::test::Fail;
@@ -21,12 +24,32 @@ fn enum_of(alloc: Global, payloads: Vec<SchemaNode>) -> Result<SchemaNode, Alloc
     Ok(SchemaNode::Enum(variants))
 }
 
-// What is wrong with the bytes, if anything is.
+// Whether a value that was decoded has these bytes exactly if they are those that are written, and whether the strict
+// calls say so.
+fn comes_back(alloc: Global, schema: &Schema, bytes: &[u8], value: &Value) -> bool {
+    let written = match encode_value(alloc, schema, value) {
+        Ok(again) => again.as_slice() == bytes,
+        Err(_) => return false,
+    };
+    let decoded = match decode_value_strict(alloc, schema, bytes) {
+        Ok(again) => again == *value,
+        Err(error) => !written && error.reason == Reason::NotTheWrittenText,
+    };
+    decoded && written == check_value_strict(alloc, schema, bytes).is_ok()
+}
+
+// What is wrong with the bytes, if anything is. Where decoding answers otherwise than the check, this is `BadShape`,
+// which no call here answers.
 fn fault(alloc: Global, schema: &Schema, bytes: &[u8]) -> Option<Reason> {
-    match check_value(alloc, schema, bytes) {
+    let found = match check_value(alloc, schema, bytes) {
         Ok(()) => None,
         Err(error) => Some(error.reason),
-    }
+    };
+    let same = match decode_value(alloc, schema, bytes) {
+        Ok(value) => found == None && comes_back(alloc, schema, bytes, &value),
+        Err(error) => found == Some(error.reason),
+    };
+    if same { found } else { Some(Reason::BadShape) }
 }
 
 #[test]

@@ -1,34 +1,36 @@
-//! Values that are encoded by a schema, with the bytes of the Rust crate for the type that the schema describes.
+//! Values that are encoded and decoded by a schema, with the bytes of the Rust crate for the type that the schema
+//! describes.
 use bitcode::{Reason, Value};
+use bitcode_schema::decode::decode_value;
 use bitcode_schema::encode::encode_value;
 use bitcode_schema::schema::{IntKind, Schema, SchemaNode};
 use std::alloc::Global;
 use std::test::Fail;
 
-// The bytes of a value, or why there are none.
-fn bytes_of(alloc: Global, node: SchemaNode, value: &Value) -> Result<Vec<u8>, Reason> {
-    match Schema::new(node) {
-        Ok(schema) => match encode_value(alloc, &schema, value) {
-            Ok(bytes) => Ok(bytes),
-            Err(error) => Err(error.reason),
-        },
-        Err(error) => Err(error.reason),
-    }
-}
-
-// Whether a value has these bytes.
+// Whether a value has these bytes, and they are decoded as the value.
 fn has(alloc: Global, node: SchemaNode, value: &Value, bytes: &[u8]) -> bool {
-    match bytes_of(alloc, node, value) {
+    let Ok(schema) = Schema::new(node) else {
+        return false;
+    };
+    let written = match encode_value(alloc, &schema, value) {
         Ok(written) => written.as_slice() == bytes,
         Err(_) => false,
-    }
+    };
+    let read = match decode_value(alloc, &schema, bytes) {
+        Ok(again) => again == *value,
+        Err(_) => false,
+    };
+    written && read
 }
 
 // Whether a value is not of the node.
 fn is_stranger(alloc: Global, node: SchemaNode, value: &Value) -> bool {
-    match bytes_of(alloc, node, value) {
+    let Ok(schema) = Schema::new(node) else {
+        return false;
+    };
+    match encode_value(alloc, &schema, value) {
         Ok(_) => false,
-        Err(reason) => reason == Reason::NotOfTheShape,
+        Err(error) => error.reason == Reason::NotOfTheShape,
     }
 }
 

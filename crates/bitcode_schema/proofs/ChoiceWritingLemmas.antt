@@ -48,12 +48,12 @@ shape_variant [] i p d there is = cc
 shape_variant (q ∷ ps) zero p d there is = let e : q ≡ p = cc in subst (λ r. IsOf r.shape d) e is
 shape_variant (q ∷ ps) (suc i) p d there is = shape_variant ps i p d there is
 
-there_below : {A : Type 0} (ps : List A) (i : ℕ) → i < length ps → (p : A) × (slice_get ps i ≡ Some p)
+pub there_below : {A : Type 0} (ps : List A) (i : ℕ) → i < length ps → (p : A) × (slice_get ps i ≡ Some p)
 there_below [] i below = absurd (omega arith)
 there_below (p ∷ ps) zero below = (p, refl)
 there_below (p ∷ ps) (suc i) below = there_below ps i (let k : suc i < suc (length ps) = below in omega arith)
 
-below_there : {A : Type 0} (ps : List A) (i : ℕ) (p : A) → slice_get ps i ≡ Some p → i < length ps
+pub below_there : {A : Type 0} (ps : List A) (i : ℕ) (p : A) → slice_get ps i ≡ Some p → i < length ps
 below_there [] i p there = cc
 below_there (q ∷ ps) zero p there = omega arith
 below_there (q ∷ ps) (suc i) p there = let k = below_there ps i p there in omega arith

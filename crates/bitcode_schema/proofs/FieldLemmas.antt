@@ -28,26 +28,37 @@ abbrev pub range : (from to : ℕ) → List SchemaNode → List SchemaNode
 range from to fields = take (to - from) (drop from fields)
 
 -- those in the middle of a range cut it
-pub range_pair : (fields : List SchemaNode) (from to : ℕ) → 1 < to - from → to ≤ length fields
-    → shape_of_fields (range from to fields)
-    ≡ pair_shape (shape_of_fields (range from (from + (to - from) / 2) fields)) (shape_of_fields (range (from + (to - from) / 2) to fields))
-range_pair fields from to some within =
-    let count = to - from in
-    let half = count / 2 in
-    let less : half < count = half_less count some in
-    let there : length (drop from fields) ≡ length fields - from = length-drop from fields in
-    let size : length (range from to fields) ≡ count = length-take-le count (drop from fields) (omega (arith, there, within, some)) in
-    let front : take half (range from to fields) ≡ range from (from + half) fields =
-    take-take half count (drop from fields) (omega (arith, less)) ∙ ap (λ n. take n (drop from fields)) (let e : half ≡ (from + half) - from = omega arith in e) in
-    let whole : count ≡ half + (count - half) = omega (arith, less) in
-    let back : drop half (range from to fields) ≡ range (from + half) to fields =
-    ap (λ n. drop half (take n (drop from fields))) whole
-    ∙ drop-take half (count - half) (drop from fields)
-    ∙ ap (take (count - half)) (drop-drop half from fields)
-    ∙ ap (λ n. take n (drop (from + half) fields)) (let e : count - half ≡ to - (from + half) = omega (arith, some) in e) in
-    fields_pair (range from to fields) (omega (arith, size, some))
-    ∙ ap (λ n. pair_shape (shape_of_fields (take (n / 2) (range from to fields))) (shape_of_fields (drop (n / 2) (range from to fields)))) size
-    ∙ ap₂ (λ f b. pair_shape (shape_of_fields f) (shape_of_fields b)) front back
+module _ (fields : List SchemaNode) (from to : ℕ) (some : 1 < to - from) (within : to ≤ length fields) where
+  abbrev half : ℕ
+  half = (to - from) / 2
+
+  pub range_size : length (range from to fields) ≡ to - from
+  range_size =
+      let there : length (drop from fields) ≡ length fields - from = length-drop from fields in
+      length-take-le (to - from) (drop from fields) (omega (arith, there, within, some))
+
+  pub range_front : take half (range from to fields) ≡ range from (from + half) fields
+  range_front =
+      let less : half < to - from = half_less (to - from) some in
+      take-take half (to - from) (drop from fields) (omega (arith, less))
+      ∙ ap (λ n. take n (drop from fields)) (let e : half ≡ (from + half) - from = omega arith in e)
+
+  pub range_back : drop half (range from to fields) ≡ range (from + half) to fields
+  range_back =
+      let less : half < to - from = half_less (to - from) some in
+      let whole : to - from ≡ half + (to - from - half) = omega (arith, less) in
+      ap (λ n. drop half (take n (drop from fields))) whole
+      ∙ drop-take half (to - from - half) (drop from fields)
+      ∙ ap (take (to - from - half)) (drop-drop half from fields)
+      ∙ ap (λ n. take n (drop (from + half) fields)) (let e : to - from - half ≡ to - (from + half) = omega (arith, some) in e)
+
+  pub range_pair : shape_of_fields (range from to fields)
+      ≡ pair_shape (shape_of_fields (range from (from + (to - from) / 2) fields)) (shape_of_fields (range (from + (to - from) / 2) to fields))
+  range_pair =
+      let size = range_size in
+      fields_pair (range from to fields) (omega (arith, size, some))
+      ∙ ap (λ n. pair_shape (shape_of_fields (take (n / 2) (range from to fields))) (shape_of_fields (drop (n / 2) (range from to fields)))) size
+      ∙ ap₂ (λ f b. pair_shape (shape_of_fields f) (shape_of_fields b)) range_front range_back
 
 pub no_fields : (fields : List SchemaNode) → length fields ≡ 0 → shape_of_fields fields ≡ unit_shape
 no_fields [] none = refl
@@ -57,13 +68,16 @@ pub whole_range : (fields : List SchemaNode) (count : ℕ) → count ≡ length 
 whole_range fields count is = ap (λ n. take n fields) (let e : count - 0 ≡ length fields = omega (arith, is) in e) ∙ take-length fields
 
 -- a range of one field
-pub one_field : (fields : List SchemaNode) (from to : ℕ) (field : SchemaNode) → to - from ≡ 1 → slice_get fields from ≡ Some field → shape_of_fields (range from to fields) ≡ shape_of field
-one_field fields from to field one is = ap (λ n. shape_of_fields (take n (drop from fields))) one ∙ first fields from is
+pub only_field : (fields : List SchemaNode) (from to : ℕ) (field : SchemaNode) → to - from ≡ 1 → slice_get fields from ≡ Some field → range from to fields ≡ field ∷ []
+only_field fields from to field one is = ap (λ n. take n (drop from fields)) one ∙ first fields from is
   where
-    first : (fs : List SchemaNode) (i : ℕ) → slice_get fs i ≡ Some field → shape_of_fields (take 1 (drop i fs)) ≡ shape_of field
+    first : (fs : List SchemaNode) (i : ℕ) → slice_get fs i ≡ Some field → take 1 (drop i fs) ≡ field ∷ []
     first [] i h = cc
-    first (f ∷ fs) zero h = ap shape_of (let e : f ≡ field = cc in e)
+    first (f ∷ fs) zero h = ap (λ g. g ∷ []) (let e : f ≡ field = cc in e)
     first (f ∷ fs) (suc i) h = first fs i h
+
+pub one_field : (fields : List SchemaNode) (from to : ℕ) (field : SchemaNode) → to - from ≡ 1 → slice_get fields from ≡ Some field → shape_of_fields (range from to fields) ≡ shape_of field
+one_field fields from to field one is = ap shape_of_fields (only_field fields from to field one is)
 
 -- ---- pairs
 

@@ -30,3 +30,9 @@ pub mod FieldWritingLemmas
 pub mod ChoiceWritingLemmas
 pub mod CaseWritingLemmas
 pub mod OneLemmas
+pub mod CutLemmas
+pub mod MakingLemmas
+pub mod DealLemmas
+pub mod HeldLemmas
+pub mod PayloadMakingLemmas
+pub mod NodeMakingLemmas

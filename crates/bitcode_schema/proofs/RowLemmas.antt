@@ -115,7 +115,7 @@ pub whole_rows : (cs : List Content) (rows : List (List Value)) → All (λ row.
     → All (λ row. row_content cs 0 row ≡ fields_content cs row) rows
 whole_rows cs rows sized k d lt = whole_row cs (get_or rows k d) (sized k d lt)
 
-fields_size : (cs : List Content) (row : List Value) (d : Datum) → fields_content cs row ≡ Some d → length row ≡ length cs
+pub fields_size : (cs : List Content) (row : List Value) (d : Datum) → fields_content cs row ≡ Some d → length row ≡ length cs
 fields_size cs row d e = split (contents_each cs row) refl
   where
     split : (o : Option (List Datum)) → contents_each cs row ≡ o → length row ≡ length cs

@@ -12,3 +12,6 @@ pub mod Cases
 pub mod Allowing
 pub mod Parts
 pub mod Encoding
+pub mod Making
+pub mod LeafValues
+pub mod Decoding

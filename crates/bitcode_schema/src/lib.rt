@@ -1,11 +1,13 @@
-//! Schemas that are made at run time, checks of bytes and encoding of values by them.
+//! Schemas that are made at run time, checks of bytes by them, and encoding and decoding of values.
 #![tactic(auto)]
 
 pub mod check;
 mod choices;
+pub mod decode;
 pub mod encode;
 mod leaves;
 mod limits;
+mod make;
 mod parts;
 mod read;
 pub mod schema;

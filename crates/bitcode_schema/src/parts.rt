@@ -3,7 +3,8 @@ ghost use Rattle.std.specs.Prelude.{◌≡◌, ◌<◌, true, Some, length, slic
 ghost use Rattle.bitcode_shapes.specs.Shape.{unit_shape};
 ghost use Rattle.bitcode_enums.specs.ByNumber.{shape_at};
 ghost use Rattle.bitcode_schema.specs.Depth.{depth, has_few_variants};
-ghost use Rattle.bitcode_schema.specs.Forms.{shape_of, shapes_of};
+ghost use Rattle.bitcode_schema.specs.Forms.{content_under, shape_of, shapes_of};
+ghost use Rattle.bitcode_schema.specs.Making.{payload_unit, variant_contents};
 ghost use Rattle.bitcode_schema.specs.Reading.{fields_of, variant_shapes};
 
 use crate::schema::SchemaNode;
@@ -48,6 +49,9 @@ impl SchemaNode {
             (λ node. shape_at i (shapes_of (variant_shapes self.now)) ≡ shape_of node.now) }
         ensures none { IfNone result
             (shape_at i (shapes_of (variant_shapes self.now)) ≡ unit_shape) }
+        ensures content { IfSome result
+            (λ node. slice_get (variant_contents self.now) i ≡ Some (content_under node.now)) }
+        ensures unit { IfNone result (slice_get (variant_contents self.now) i ≡ Some payload_unit) }
         ensures deeper { IfSome result (λ node. depth node.now < depth self.now) }
         ensures few { has_few_variants self.now ≡ true
             → IfSome result (λ node. has_few_variants node.now ≡ true) }
