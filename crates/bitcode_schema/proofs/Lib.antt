@@ -36,3 +36,4 @@ pub mod DealLemmas
 pub mod HeldLemmas
 pub mod PayloadMakingLemmas
 pub mod NodeMakingLemmas
+pub mod DecodingLemmas

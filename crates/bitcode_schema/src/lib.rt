@@ -5,6 +5,7 @@ pub mod check;
 mod choices;
 pub mod decode;
 pub mod encode;
+pub mod laws;
 mod leaves;
 mod limits;
 mod make;

@@ -3,7 +3,8 @@ ghost use Rattle.std.specs.Prelude.{◌≡◌, ◌<◌, ◌≤◌, true, length,
 ghost use Rattle.bitcode_shapes.specs.Shape.{seq_shape, map_shape, array_shape, choice_shape};
 ghost use Rattle.bitcode_enums.specs.ByNumber.{shape_at};
 ghost use Rattle.bitcode_schema.specs.Depth.{has_few_variants};
-ghost use Rattle.bitcode_schema.specs.Forms.{content_under, shape_of, shapes_of, enum_shape, enum_content, list_content, pair_content, fields_content};
+ghost use Rattle.bitcode_schema.specs.Forms.{content_under, shape_of, shapes_of, enum_shape, enum_content};
+ghost use Rattle.bitcode_schema.specs.Forms.{list_content, pair_content, fields_content};
 ghost use Rattle.bitcode_schema.specs.Making.{MakesData, MakesPayloads, variant_contents};
 ghost use Rattle.bitcode_schema.specs.Parts.{choice_under, enum_under, contents_of};
 ghost use Rattle.bitcode_schema.specs.Reading.{fields_of, fields_between, shape_of_fields, variant_shapes};
@@ -52,9 +53,7 @@ pub(crate) fn make<'a>(
         SchemaNode::Unit => make_units(alloc, input, k),
         SchemaNode::Never => make_never(alloc, input, k),
         SchemaNode::Bool => make_leaf::<bool, BoolDecoder>(alloc, input, k),
-        SchemaNode::Char => {
-            make_leaf::<char, CheckedIntDecoder<char, u32>>(alloc, input, k)
-        }
+        SchemaNode::Char => { make_leaf::<char, CheckedIntDecoder<char, u32>>(alloc, input, k) }
         SchemaNode::Int(kind) => make_ints(alloc, *kind, input, k),
         SchemaNode::NonZero(kind) => make_nonzeros(alloc, *kind, input, k),
         SchemaNode::F32 => make_leaf::<f32, F32Decoder>(alloc, input, k),

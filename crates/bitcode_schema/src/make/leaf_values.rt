@@ -19,12 +19,12 @@ ghost use Rattle.bitcode_schema.specs.Making.{MakesAs, MakesData, payload_unit};
 ghost use Rattle.bitcode_schema.specs.declared.schema.IntKind.TheVariants as int;
 ghost use Rattle.bitcode_schema.specs.Views.{under, elements_of, fields_of};
 
-use crate::make::becomes::Becomes;
-use crate::make::gather::{arrays, each, zipped};
 use crate::leaves::{read_leaf, read_nonzeros};
 use crate::limits::exceed;
-use crate::schema::IntKind;
+use crate::make::becomes::Becomes;
+use crate::make::gather::{arrays, each, zipped};
 use crate::make::turns::AsSpan;
+use crate::schema::IntKind;
 use bitcode_coder::coder::{Decoder, View};
 use bitcode_coder::length::LengthDecoder;
 use bitcode_coder::str::StrDecoder;
@@ -193,9 +193,7 @@ pub(crate) fn make_durations<'a>(
         input.old.now input.new.now values.items) }
 {
     let seconds = make_leaf::<u64, IntDecoder<u64>>(alloc, input, k)?;
-    let nanos = make_leaf::<Nanosecond, CheckedIntDecoder<Nanosecond, u32>>(
-        alloc, input, k,
-    )?;
+    let nanos = make_leaf::<Nanosecond, CheckedIntDecoder<Nanosecond, u32>>(alloc, input, k)?;
     let spans = zipped(alloc, seconds, nanos)?;
     each::<(Value, Value), Value, AsSpan>(alloc, spans)
 }

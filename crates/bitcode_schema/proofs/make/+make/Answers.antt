@@ -14,6 +14,8 @@ use Rattle.bitcode_schema.specs.Views.{elements_of, pairs_of}
 use Rattle.bitcode_schema.specs.declared.schema.SchemaNode.TheVariants as node
 use Rattle.bitcode_schema.proofs.ContentLemmas.{content-Unit, content-Bool, content-Char, content-Int, content-NonZero, content-F32, content-F64, content-Str, content-Duration, content-Uuid, content-List, content-Map, content-Array}
 use Rattle.bitcode_schema.proofs.HeldLemmas.{makes_as, makes_lists, makes_arrays, makes_maps, makes_pairs, makes_through, same_length, made_length}
+use Rattle.bitcode_schema.proofs.FieldLemmas.{range, whole_range}
+use Rattle.bitcode_schema.proofs.NodeMakingLemmas.{makes_halves, makes_one_field, makes_no_fields, makes_tuples}
 use Rattle.bitcode_schema.proofs.PartLemmas.{few_payloads}
 use Rattle.bitcode_schema.proofs.ShapeLemmas.{length-Enum, shape-Unit, shape-Bool, shape-Char, shape-Int, shape-NonZero, shape-F32, shape-F64, shape-Str, shape-Duration, shape-Uuid, shape-List, shape-Map, shape-Array}
 use Rattle.bitcode_schema.proofs.make.+make.Goals as goal
@@ -92,8 +94,8 @@ pub make_lists-returns : goal.make_lists-returns
 make_lists-returns t c = record {
   made = IfOk-weaker c.lists.result _ _
       (λ values h.
-          makes_lists (content_under c.args.element.now) elements_of (shape_of c.args.element.now) c.args.k _ _ c.in_ok-elements.elements.items values.items
-          c.args.capacity _ _ c.in_ok-lengths.ensures.read (rw (c.length.ensures, c.in_ok-lengths.ensures.sum) at c.in_ok-elements.ensures.made) h)
+      makes_lists (content_under c.args.element.now) elements_of (shape_of c.args.element.now) c.args.k _ _ c.in_ok-elements.elements.items values.items
+      c.args.capacity _ _ c.in_ok-lengths.ensures.read (rw (c.length.ensures, c.in_ok-lengths.ensures.sum) at c.in_ok-elements.ensures.made) h)
       c.lists.ensures.made;
 }
 
@@ -112,9 +114,9 @@ make_maps-returns t c =
     record {
       made = IfOk-weaker c.lists.result _ _
           (λ maps h.
-              makes_maps _ (shape_of c.args.key.now) (shape_of c.args.value.now) c.args.k _ _ maps.items
-              (makes_lists _ pairs_of (pair_shape (shape_of c.args.key.now) (shape_of c.args.value.now)) c.args.k _ _ c.in_ok-pairs.pairs.items maps.items
-              None _ _ c.in_ok-lengths.ensures.read pairs h))
+          makes_maps _ (shape_of c.args.key.now) (shape_of c.args.value.now) c.args.k _ _ maps.items
+          (makes_lists _ pairs_of (pair_shape (shape_of c.args.key.now) (shape_of c.args.value.now)) c.args.k _ _ c.in_ok-pairs.pairs.items maps.items
+          None _ _ c.in_ok-lengths.ensures.read pairs h))
           c.lists.ensures.made;
     }
 
@@ -130,8 +132,8 @@ make_arrays-returns t c =
     record {
       made = IfOk-weaker c.arrays.result _ _
           (λ values h.
-              makes_arrays (content_under c.args.element.now) elements_of (shape_of c.args.element.now) c.args.k _ _ c.in_ok-elements.elements.items values.items
-              c.args.size few (rw c.in_ok-count.ensures.product at c.in_ok-elements.ensures.made) h)
+          makes_arrays (content_under c.args.element.now) elements_of (shape_of c.args.element.now) c.args.k _ _ c.in_ok-elements.elements.items values.items
+          c.args.size few (rw c.in_ok-count.ensures.product at c.in_ok-elements.ensures.made) h)
           c.arrays.ensures.made;
     }
 
@@ -139,16 +141,73 @@ pub make_fields-zipped-requires : goal.make_fields-zipped-requires
 make_fields-zipped-requires t c = same_length _ _ _ _ _ _ _ _ _ _ c.in_ok-first.ensures.made c.in_ok-second.ensures.made
 
 pub make_fields-returns-then-count-gt1 : goal.make_fields-returns-then-count-gt1
-make_fields-returns-then-count-gt1 t c = ?
+make_fields-returns-then-count-gt1 t c = record {
+  made = IfOk-weaker c.each.result _ _
+      (λ rows each.
+      makes_halves (fields_of c.args.node.now) c.args.from c.args.to c.args.k _ _ rows.items _ _ _ c.in_ok-halves.halves.items c.if-count-gt1.true
+      c.requires.range.1 c.in_ok-first.ensures.made c.in_ok-second.ensures.made c.in_ok-halves.ensures.firsts c.in_ok-halves.ensures.seconds each)
+      c.each.ensures;
+}
 
 pub make_fields-returns-in-Some : goal.make_fields-returns-in-Some
-make_fields-returns-in-Some t c = ?
+make_fields-returns-in-Some t c = record {
+  made = IfOk-weaker c.each-in-Some.result _ _
+      (λ rows each.
+      makes_one_field (fields_of c.args.node.now) c.args.from c.args.to c.args.k _ _ rows.items c.in-Some.field.now c.in_ok-values.values.items
+      (omega (arith, c.if-count-gt1.false, c.requires.range)) c.in-Some.ensures.found each c.in_ok-values.ensures.made)
+      c.each-in-Some.ensures;
+}
 
 pub make_tuples-returns-then-count-eq0 : goal.make_tuples-returns-then-count-eq0
-make_tuples-returns-then-count-eq0 t c = ?
+make_tuples-returns-then-count-eq0 t c = record {
+  made = IfOk-weaker c.each.result _ _
+      (λ values each.
+      makes_no_fields (fields_of c.args.node.now) c.args.k _ _ values.items c.in_ok-units.units.items (sym c.field_count-count.ensures ∙ c.if-count-eq0.true) each
+      c.in_ok-units.ensures.made)
+      c.each.ensures;
+}
 
 pub make_tuples-returns : goal.make_tuples-returns
-make_tuples-returns t c = ?
+make_tuples-returns t c = record {
+  made = IfOk-weaker c.each-2.result _ _
+      (λ values each.
+      makes_tuples (fields_of c.args.node.now) c.args.k _ _ values.items (range 0 c.field_count-count.result (fields_of c.args.node.now)) c.in_ok-rows.rows.items
+      (whole_range (fields_of c.args.node.now) c.field_count-count.result c.field_count-count.ensures) each c.in_ok-rows.ensures.made)
+      c.each-2.ensures;
+}
+
+pub make-returns-in-Tuple : goal.make-returns-in-Tuple
+make-returns-in-Tuple t c = ?
+
+pub make-returns-in-Struct : goal.make-returns-in-Struct
+make-returns-in-Struct t c = ?
+
+pub make-returns-in-Option : goal.make-returns-in-Option
+make-returns-in-Option t c = ?
+
+pub make-returns-in-Result : goal.make-returns-in-Result
+make-returns-in-Result t c = ?
+
+pub make-returns-in-Enum : goal.make-returns-in-Enum
+make-returns-in-Enum t c = ?
+
+pub make-returns-in-Never : goal.make-returns-in-Never
+make-returns-in-Never t c = ?
+
+pub make-returns-in-List : goal.make-returns-in-List
+make-returns-in-List t c = ?
+
+pub make-returns-in-Map : goal.make-returns-in-Map
+make-returns-in-Map t c = ?
+
+pub make-returns-in-Array : goal.make-returns-in-Array
+make-returns-in-Array t c = ?
+
+pub make_payloads-returns-in-Some : goal.make_payloads-returns-in-Some
+make_payloads-returns-in-Some t c = ?
+
+pub make_payloads-returns-in-None : goal.make_payloads-returns-in-None
+make_payloads-returns-in-None t c = ?
 
 pub make-make_enum-requires : goal.make-make_enum-requires
 make-make_enum-requires t c =
