@@ -2,23 +2,28 @@
 use Rattle.std.proofs.Common.{◌≡◌, ℕ, zero, suc, ◌<◌, ◌≤◌, ◌+◌, ◌-◌, ◌/◌, Option, Some, None, List, [], ◌∷◌, ◌++◌, length, take, drop, map, slice_get, Box, Vec, Global, refl, sym, ap, ap₂, subst, ◌∙◌, arith}
 use Rattle.std.specs.List.{AllZip}
 use Rattle.std.specs.declared.string.String.{String}
-use Rattle.std.proofs.lemmas.List.{length-map, map-append, nil_from_length, take-append-drop, length-append}
+use Rattle.std.specs.Prelude.{option_map}
+use Rattle.std.proofs.lemmas.List.{length-map, length-take-le, map-append, nil_from_length, take-append-drop}
+use Rattle.std.proofs.lemmas.Option.{slice_get-map}
 use Rattle.bitcode_shapes.specs.Datum.{Datum, unit, choice, pair}
 use Rattle.bitcode_shapes.specs.Shape.{Shape, unit_shape, pair_shape, choice_shape}
 use Rattle.bitcode_enums.specs.ByNumber.{shape_at}
 use Rattle.bitcode_schema.specs.Forms.{Content, changed, both, choice_content, chosen_content, content_under, enum_content, enum_shape, fields_content, parts_of, shape_of, shapes_of}
 use Rattle.bitcode_schema.specs.Making.{MakesData, MakesPayloads, optional, payload_unit, variant_contents, variant_contents_step}
 use Rattle.bitcode_schema.specs.Parts.{choice_under, contents_of, enum_under, option_content, unit_content}
-use Rattle.bitcode_schema.specs.Reading.{shape_of_fields, variant_shapes, variants_step}
+use Rattle.bitcode_schema.specs.Reading.{fields_of as nodes_of, shape_of_fields, variant_shapes, variants_step}
 use Rattle.bitcode_schema.specs.Views.{enum_of, fields_of, option_of, under}
 use Rattle.bitcode_schema.specs.declared.schema.SchemaNode.{SchemaNode, out-SchemaNode}
 use Rattle.bitcode_schema.specs.declared.schema.SchemaNode.TheOpen.{SchemaNode-F}
 use Rattle.bitcode_schema.specs.declared.schema.SchemaNode.TheViews.{out-roll-SchemaNode}
 use Rattle.bitcode_schema.specs.declared.schema.SchemaNode.TheVariants as node
+use Rattle.bitcode_schema.proofs.ContentLemmas.{content-Tuple, content-Struct, content-Option, content-Result, content-Enum}
 use Rattle.bitcode_schema.proofs.FieldLemmas.{range, range_size, range_front, range_back, range_pair, only_field}
 use Rattle.bitcode_schema.proofs.HalfLemmas.{half_less}
-use Rattle.bitcode_schema.proofs.HeldLemmas.{makes_through, makes_pairs, one_row, two_rows}
+use Rattle.bitcode_schema.proofs.HeldLemmas.{makes_as, makes_through, makes_pairs, one_row, two_rows}
 use Rattle.bitcode_schema.proofs.HoldLemmas.{some_same}
+use Rattle.bitcode_schema.proofs.PartLemmas.{part_at}
+use Rattle.bitcode_schema.proofs.ShapeLemmas.{fields-Tuple, fields-Struct, shape-Option, shape-Result, shape-Enum, only_variant, several_variants}
 use Rattle.bitcode_untyped.specs.declared.value.Value.{Value, out-Value}
 use Rattle.bitcode_untyped.specs.declared.value.Value.TheOpen.{Value-F}
 
@@ -110,6 +115,13 @@ as_many_contents n = step (out-SchemaNode n)
     step (SchemaNode-F.Enum v) = length-map (parts_of v.items) content_under ∙ sym (length-map (parts_of v.items) shape_of)
     step _ = refl
 
+-- the payload of a variant that is there
+pub content_found : (v : Vec (String Global × SchemaNode) Global) (i : ℕ) (part : String Global × SchemaNode) → slice_get v.items i ≡ Some part
+    → slice_get (variant_contents (node.Enum v)) i ≡ Some (content_under part.1)
+content_found v i part is =
+    ap (λ cs. slice_get cs i) (contents-Enum v) ∙ slice_get-map content_under (parts_of v.items) i
+    ∙ ap (λ found. option_map content_under found) (part_at v.items i part is)
+
 -- ---- choices as values
 
 module _ (k : ℕ) (old new : List ℕ) (values : List Value) (choices : List (ℕ × Value)) where
@@ -155,6 +167,61 @@ makes_single (c ∷ []) s k old new values payloads one each m =
     makes_through (λ value payload. enum_of value ≡ Some (0, payload)) c (λ v. under (enum_of v) (enum_under (c ∷ [])))
     (λ value payload d is h. ap (λ o. under o (enum_under (c ∷ []))) is ∙ h) s k old new values payloads each (m c refl)
 makes_single (c ∷ e ∷ cs) s k old new values payloads one each m = absurd (omega (arith, one))
+
+-- ---- whole nodes
+
+pub tuple_contents : (v : Vec SchemaNode Global) (value : Value)
+    → under (fields_of value) (fields_content (contents_of (nodes_of (node.Tuple v)))) ≡ content_under (node.Tuple v) value
+tuple_contents v value = ap (λ fs. under (fields_of value) (fields_content (contents_of fs))) (fields-Tuple v) ∙ sym (content-Tuple v value)
+
+pub struct_contents : (v : Vec (String Global × SchemaNode) Global) (value : Value)
+    → under (fields_of value) (fields_content (contents_of (nodes_of (node.Struct v)))) ≡ content_under (node.Struct v) value
+struct_contents v value = ap (λ fs. under (fields_of value) (fields_content (contents_of fs))) (fields-Struct v) ∙ sym (content-Struct v value)
+
+-- the shape of the choices of a node
+abbrev choices_shape : SchemaNode → Shape
+choices_shape n = choice_shape (shapes_of (variant_shapes n))
+
+module _ (k : ℕ) (old new : List ℕ) (values : List Value) where
+  pub makes_option_node : (b : Box SchemaNode Global) (choices : List (ℕ × Value)) → AllZip (λ value choice. option_of value ≡ Some (optional choice.0 choice.1)) values choices
+      → MakesData (choices_shape (node.Option b)) (choice_under (variant_contents (node.Option b))) k old new choices
+      → MakesData (shape_of (node.Option b)) (content_under (node.Option b)) k old new values
+  makes_option_node b choices each m =
+      makes_as (λ v. under (option_of v) (option_content (content_under b.value))) (content_under (node.Option b)) (λ v. sym (content-Option b v))
+      (choices_shape (node.Option b)) (shape_of (node.Option b)) (sym (shape-Option b)) k old new values
+      (makes_options k old new values choices (content_under b.value) (choices_shape (node.Option b)) each
+      (subst (λ cs. MakesData (choices_shape (node.Option b)) (choice_under cs) k old new choices) (contents-Option b) m))
+
+  pub makes_result_node : (a b : Box SchemaNode Global) (choices : List (ℕ × Value)) → AllZip (λ value choice. enum_of value ≡ Some (choice.0, choice.1)) values choices
+      → MakesData (choices_shape (node.Result a b)) (choice_under (variant_contents (node.Result a b))) k old new choices
+      → MakesData (shape_of (node.Result a b)) (content_under (node.Result a b)) k old new values
+  makes_result_node a b choices each m =
+      makes_as (λ v. under (enum_of v) (choice_under (variant_contents (node.Result a b)))) (content_under (node.Result a b))
+      (λ v. ap (λ cs. under (enum_of v) (choice_under cs)) (contents-Result a b) ∙ sym (content-Result a b v))
+      (choices_shape (node.Result a b)) (shape_of (node.Result a b)) (sym (shape-Result a b)) k old new values
+      (makes_results k old new values choices (variant_contents (node.Result a b)) (choices_shape (node.Result a b)) each m)
+
+  pub makes_enum_node : (v : Vec (String Global × SchemaNode) Global)
+      → MakesData (enum_shape (variant_shapes (node.Enum v))) (λ value. under (enum_of value) (enum_under (variant_contents (node.Enum v)))) k old new values
+      → MakesData (shape_of (node.Enum v)) (content_under (node.Enum v)) k old new values
+  makes_enum_node v m =
+      makes_as (λ value. under (enum_of value) (enum_under (variant_contents (node.Enum v)))) (content_under (node.Enum v))
+      (λ value. ap (λ cs. under (enum_of value) (enum_under cs)) (contents-Enum v) ∙ sym (content-Enum v value))
+      (enum_shape (variant_shapes (node.Enum v))) (shape_of (node.Enum v)) (sym (shape-Enum v)) k old new values m
+
+  pub makes_single_enum : (n : SchemaNode) (payloads : List Value) → length (variant_shapes n) ≡ 1 → AllZip (λ value payload. enum_of value ≡ Some (0, payload)) values payloads
+      → MakesPayloads n 0 k old new payloads → MakesData (enum_shape (variant_shapes n)) (λ v. under (enum_of v) (enum_under (variant_contents n))) k old new values
+  makes_single_enum n payloads one each m =
+      makes_single (variant_contents n) (enum_shape (variant_shapes n)) k old new values payloads (as_many_contents n ∙ one) each
+      (λ content there. subst (λ s. MakesData s content k old new payloads) (sym (only_variant (variant_shapes n) one)) (m content there))
+
+  pub makes_several_enum : (n : SchemaNode) (choices : List (ℕ × Value)) → 2 ≤ length (variant_shapes n)
+      → AllZip (λ value choice. enum_of value ≡ Some (choice.0, choice.1)) values choices
+      → MakesData (choices_shape n) (choice_under (variant_contents n)) k old new choices
+      → MakesData (enum_shape (variant_shapes n)) (λ v. under (enum_of v) (enum_under (variant_contents n))) k old new values
+  makes_several_enum n choices several each m =
+      subst (λ s. MakesData s (λ v. under (enum_of v) (enum_under (variant_contents n))) k old new values) (sym (several_variants (variant_shapes n) several))
+      (makes_enums k old new values choices (variant_contents n) (choices_shape n) each m (subst (λ c. 2 ≤ c) (sym (as_many_contents n)) several))
 
 -- ---- payloads
 

@@ -33,7 +33,7 @@ module _ {A : Type 0} where
       subst (λ y. p y ≡ true) (get_or_from_slice_get xs i x x is) (AllPass-from_list_all p xs all i x (slice_get_within xs i x is))
 
 -- the second part of a pair
-part_at : {N A : Type 0} (named : List (N × A)) (i : ℕ) (part : N × A) → slice_get named i ≡ Some part → slice_get (parts_of named) i ≡ Some part.1
+pub part_at : {N A : Type 0} (named : List (N × A)) (i : ℕ) (part : N × A) → slice_get named i ≡ Some part → slice_get (parts_of named) i ≡ Some part.1
 part_at named i part is = slice_get-map (λ p. p.1) named i ∙ ap (λ found. option_map (λ p. p.1) found) is
 
 shape_found : (ss : List Shape) (i : ℕ) (s : Shape) → slice_get ss i ≡ Some s → shape_at i (shapes_of ss) ≡ s
