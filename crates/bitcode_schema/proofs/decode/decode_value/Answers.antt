@@ -1,0 +1,17 @@
+-- What is made is what the check found.
+use Rattle.std.proofs.lemmas.Bool.{false≢true}
+use Rattle.std.proofs.lemmas.Result.{err_from_is_err_and, IfErr-weaker}
+use Rattle.bitcode_derive.specs.Whole.{in_making}
+use Rattle.bitcode_schema.specs.Forms.{shape_of}
+use Rattle.bitcode_schema.proofs.DecodingLemmas.{named_in_decoding}
+use Rattle.bitcode_schema.proofs.decode.decode_value.Goals as goal
+
+pub returns-in_err-check_value-clause-exact : goal.returns-in_err-check_value-clause-exact
+returns-in_err-check_value-clause-exact c =
+    let refused = err_from_is_err_and c.from_residual.result c.from_residual.ensures.1 in
+    rw (refused.1, refused.2) (named_in_decoding (shape_of c.args.schema.now.root) c.args.bytes.now _ c.in_err-check_value.ensures.exact)
+
+pub returns-clause-exact : goal.returns-clause-exact
+returns-clause-exact c =
+    let found = c.in_ok-check_value.ensures.spelled in
+    IfErr-weaker c.make_one.result _ _ (λ e memory. in_making memory (λ free. false≢true free) found.0 found.1) c.make_one.ensures.refused
