@@ -1,5 +1,5 @@
 -- Payloads are dealt one by one, and each choice holds the datum of its variant's next payload.
-use Rattle.std.proofs.Common.{◌≡◌, ℕ, zero, suc, ◌<◌, ◌+◌, Option, Some, None, List, [], ◌∷◌, ◌++◌, length, map, drop, get_or, slice_get, All, ◌≢◌, ◌⊎◌, ◌==◌, refl, sym, ap, ap₂, subst, ◌∙◌, arith, append_assoc, inl, inr, get_or-set_same, length-set}
+use Rattle.std.proofs.Common.{◌≡◌, ℕ, zero, suc, ◌<◌, Some, List, [], ◌∷◌, ◌++◌, length, map, drop, get_or, slice_get, All, ◌≢◌, ◌⊎◌, ◌==◌, refl, sym, ap, subst, ◌∙◌, arith, append_assoc, inl, inr, get_or-set_same, length-set}
 use Rattle.std.specs.Prelude.{slice_index_or, slice_set}
 use Rattle.std.proofs.lemmas.Bool.{cases_Bool, false≢true}
 use Rattle.std.proofs.lemmas.List.{append-nil, get_or-set_other}

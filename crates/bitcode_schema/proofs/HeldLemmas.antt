@@ -8,14 +8,13 @@ use Rattle.bitcode_shapes.specs.Datum.{Datum, list, pair, data_of}
 use Rattle.bitcode_shapes.specs.Shape.{Shape, IsOf, never_shape, seq_shape, map_shape, array_shape, pair_shape}
 use Rattle.bitcode_coder.specs.Cutting.{cut}
 use Rattle.bitcode_coder.specs.LengthColumn.{SpellsLengths}
-use Rattle.bitcode_coder.specs.Spelling.{Spells}
 use Rattle.bitcode_parts.specs.Lists.{lists_of}
 use Rattle.bitcode_parts.proofs.ArrayReadingLemmas.{reads_arrays}
 use Rattle.bitcode_parts.proofs.ListLemmas.{reads_sequence}
 use Rattle.bitcode_derive.proofs.MapReadingLemmas.{reads_map}
 use Rattle.bitcode_tuples.specs.Pairs.{pairs_of}
 use Rattle.bitcode_tuples.proofs.ReadingLemmas.{reads_pairs}
-use Rattle.bitcode_schema.specs.Forms.{Content, changed, both, list_content, pair_content, fields_content, fields_datum, leaf_content, span_contents}
+use Rattle.bitcode_schema.specs.Forms.{Content, changed, both, list_content, fields_content, fields_datum, leaf_content, span_contents}
 use Rattle.bitcode_schema.specs.Leaves.{int_leaf}
 use Rattle.bitcode_schema.specs.Reading.{ReadsData}
 use Rattle.bitcode_schema.specs.declared.schema.IntKind.TheVariants as int

@@ -1,5 +1,5 @@
 -- Values of nodes with parts hold the data that were read.
-use Rattle.std.proofs.Common.{◌≡◌, ℕ, zero, suc, ◌<◌, ◌≤◌, ◌+◌, ◌-◌, ◌/◌, Option, Some, None, List, [], ◌∷◌, ◌++◌, length, take, drop, map, slice_get, Box, Vec, Global, refl, sym, ap, ap₂, subst, ◌∙◌, arith}
+use Rattle.std.proofs.Common.{◌≡◌, ℕ, zero, suc, ◌<◌, ◌≤◌, ◌+◌, ◌-◌, ◌/◌, Option, Some, None, List, [], ◌∷◌, ◌++◌, length, map, slice_get, Box, Vec, Global, refl, sym, ap, ap₂, subst, ◌∙◌, arith}
 use Rattle.std.specs.List.{AllZip}
 use Rattle.std.specs.declared.string.String.{String}
 use Rattle.std.specs.Prelude.{option_map}
@@ -8,7 +8,7 @@ use Rattle.std.proofs.lemmas.Option.{slice_get-map}
 use Rattle.bitcode_shapes.specs.Datum.{Datum, unit, choice, pair}
 use Rattle.bitcode_shapes.specs.Shape.{Shape, unit_shape, pair_shape, choice_shape}
 use Rattle.bitcode_enums.specs.ByNumber.{shape_at}
-use Rattle.bitcode_schema.specs.Forms.{Content, changed, both, choice_content, chosen_content, content_under, enum_content, enum_shape, fields_content, parts_of, shape_of, shapes_of}
+use Rattle.bitcode_schema.specs.Forms.{Content, changed, both, choice_content, content_under, enum_content, enum_shape, fields_content, parts_of, shape_of, shapes_of}
 use Rattle.bitcode_schema.specs.Making.{MakesData, MakesPayloads, optional, payload_unit, variant_contents, variant_contents_step}
 use Rattle.bitcode_schema.specs.Parts.{choice_under, contents_of, enum_under, option_content, unit_content}
 use Rattle.bitcode_schema.specs.Reading.{fields_of as nodes_of, shape_of_fields, variant_shapes, variants_step}

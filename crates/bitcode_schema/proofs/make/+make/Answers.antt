@@ -1,21 +1,17 @@
 -- By the variant of the node; lengths and variants first, and then what they are of.
-use Rattle.std.proofs.Common.{rules, ◌≡◌, ◌+◌, ◌∙◌, ◌≤◌, ◌<◌, ◌*◌, ◌^◌, ◌++◌, [], ◌∷◌, Some, refl, sym, ap, subst, length, map, All, None, arith}
+use Rattle.std.proofs.Common.{rules, ◌≡◌, ◌+◌, ◌∙◌, ◌≤◌, ◌<◌, ◌*◌, ◌^◌, ◌++◌, [], ◌∷◌, refl, sym, ap, subst, length, map, All, None, arith}
 use Rattle.std.proofs.lemmas.List.{length-map, map-append}
 use Rattle.std.proofs.lemmas.Bool.{false≢true}
 use Rattle.std.proofs.lemmas.Result.{IfOk-weaker}
-use Rattle.std.specs.Float.{binary32, binary64}
 use Rattle.bitcode_memory.specs.Fast.{cow_rest}
-use Rattle.bitcode_coder.specs.Columns.{bools, floats, texts}
 use Rattle.bitcode_shapes.specs.Shape.{unit_shape, pair_shape}
-use Rattle.bitcode_untyped.specs.Leaves.{leaf_of, char_leaf}
-use Rattle.bitcode_schema.specs.Forms.{shape_of, shapes_of, content_under, leaf_content}
-use Rattle.bitcode_schema.specs.Leaves.{int_leaf}
+use Rattle.bitcode_schema.specs.Forms.{shape_of, shapes_of, content_under}
 use Rattle.bitcode_schema.specs.Making.{payload_unit, variant_contents}
 use Rattle.bitcode_schema.specs.Reading.{fields_of, variant_shapes}
 use Rattle.bitcode_schema.specs.Views.{elements_of, pairs_of}
 use Rattle.bitcode_schema.specs.declared.schema.SchemaNode.TheVariants as node
 use Rattle.bitcode_schema.proofs.ContentLemmas.{content-Unit, content-Bool, content-Char, content-Int, content-NonZero, content-F32, content-F64, content-Str, content-Duration, content-Uuid, content-List, content-Map, content-Array}
-use Rattle.bitcode_schema.proofs.HeldLemmas.{makes_as, makes_lists, makes_arrays, makes_maps, makes_pairs, makes_through, same_length, made_length}
+use Rattle.bitcode_schema.proofs.HeldLemmas.{makes_as, makes_lists, makes_arrays, makes_maps, makes_pairs, same_length, made_length}
 use Rattle.bitcode_schema.proofs.FieldLemmas.{range, whole_range}
 use Rattle.bitcode_schema.proofs.NodeMakingLemmas.{as_many_contents, makes_halves, makes_one_field, makes_no_fields, makes_tuples, tuple_contents, struct_contents, makes_option_node, makes_result_node, makes_enum_node, makes_single_enum, makes_several_enum, makes_payloads}
 use Rattle.bitcode_schema.proofs.ChoiceLemmas.{count_shapes}
@@ -200,7 +196,7 @@ make-returns-in_ok-choices-in-Option t c = record {
   made = rw c.in-Option.is
       (IfOk-weaker c.each.result _ _
       (λ values each. makes_option_node c.args.k _ _ values.items c.in-Option._some c.in_ok-choices-in-Option.choices.items each
-          (rw c.in-Option.is at c.in_ok-choices-in-Option.ensures.made))
+      (rw c.in-Option.is at c.in_ok-choices-in-Option.ensures.made))
       c.each.ensures);
 }
 
@@ -209,8 +205,8 @@ make-returns-in_ok-choices-in-Result t c = record {
   made = rw c.in-Result.is
       (IfOk-weaker c.each-in-Result.result _ _
       (λ values each.
-          makes_result_node c.args.k _ _ values.items c.in-Result._ok c.in-Result._err c.in_ok-choices-in-Result.choices.items each
-          (rw c.in-Result.is at c.in_ok-choices-in-Result.ensures.made))
+      makes_result_node c.args.k _ _ values.items c.in-Result._ok c.in-Result._err c.in_ok-choices-in-Result.choices.items each
+      (rw c.in-Result.is at c.in_ok-choices-in-Result.ensures.made))
       c.each-in-Result.ensures);
 }
 
@@ -253,8 +249,8 @@ pub make_payloads-returns-in-Some : goal.make_payloads-returns-in-Some
 make_payloads-returns-in-Some t c = record {
   made = IfOk-weaker c.make.result _ _
       (λ values m.
-          makes_payloads c.args.node.now c.args.variant (content_under c.in-Some.payload.now) (shape_of c.in-Some.payload.now) c.args.k _ _ values.items
-          c.in-Some.ensures.content c.in-Some.ensures.found m)
+      makes_payloads c.args.node.now c.args.variant (content_under c.in-Some.payload.now) (shape_of c.in-Some.payload.now) c.args.k _ _ values.items
+      c.in-Some.ensures.content c.in-Some.ensures.found m)
       c.make.ensures.made;
 }
 
@@ -262,7 +258,7 @@ pub make_payloads-returns-in-None : goal.make_payloads-returns-in-None
 make_payloads-returns-in-None t c = record {
   made = IfOk-weaker c.make_units.result _ _
       (λ values m.
-          makes_payloads c.args.node.now c.args.variant payload_unit unit_shape c.args.k _ _ values.items c.in-None.ensures.unit c.in-None.ensures.none m)
+      makes_payloads c.args.node.now c.args.variant payload_unit unit_shape c.args.k _ _ values.items c.in-None.ensures.unit c.in-None.ensures.none m)
       c.make_units.ensures.made;
 }
 
@@ -285,8 +281,8 @@ pub make_enum-returns-then-count-eq1 : goal.make_enum-returns-then-count-eq1
 make_enum-returns-then-count-eq1 t c = record {
   made = IfOk-weaker c.each.result _ _
       (λ values each.
-          makes_single_enum c.args.k _ _ values.items c.args.node.now c.in_ok-payloads.payloads.items (c.requires.count ∙ c.if-count-eq1.true) each
-          c.in_ok-payloads.ensures.made)
+      makes_single_enum c.args.k _ _ values.items c.args.node.now c.in_ok-payloads.payloads.items (c.requires.count ∙ c.if-count-eq1.true) each
+      c.in_ok-payloads.ensures.made)
       c.each.ensures;
 }
 
@@ -294,8 +290,8 @@ pub make_enum-returns : goal.make_enum-returns
 make_enum-returns t c = record {
   made = IfOk-weaker c.each-2.result _ _
       (λ values each.
-          makes_several_enum c.args.k _ _ values.items c.args.node.now c.in_ok-choices.choices.items
-          (omega (arith, c.requires.count, c.if-count-eq0.false, c.if-count-eq1.false)) each c.in_ok-choices.ensures.made)
+      makes_several_enum c.args.k _ _ values.items c.args.node.now c.in_ok-choices.choices.items
+      (omega (arith, c.requires.count, c.if-count-eq0.false, c.if-count-eq1.false)) each c.in_ok-choices.ensures.made)
       c.each-2.ensures;
 }
 

@@ -1,5 +1,5 @@
 -- Each turn deals one payload.
-use Rattle.std.proofs.Common.{◌≡◌, ◌+◌, suc, map, drop, length, arith}
+use Rattle.std.proofs.Common.{◌+◌, drop, arith}
 use Rattle.std.proofs.lemmas.List.{drop_all}
 use Rattle.bitcode_schema.proofs.DealLemmas.{dealt_next, dealt_all, left_from}
 use Rattle.bitcode_schema.proofs.make.deal.deal.Goals as goal
