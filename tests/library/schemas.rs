@@ -2,7 +2,7 @@
 //! describes.
 use bitcode::{Error, Reason, Value};
 use bitcode_schema::check::{check_value, check_value_strict};
-use bitcode_schema::decode::{decode_value, decode_value_strict};
+use bitcode_schema::decode::{decode_value, decode_value_strict, decode_value_within};
 use bitcode_schema::encode::encode_value;
 use bitcode_schema::schema::{IntKind, Schema, SchemaNode};
 use std::alloc::{AllocError, Global};
@@ -506,5 +506,57 @@ fn strict_checks(rt: HostRuntime) -> Result<(), Fail> {
                 reason: Reason::NotTheWrittenText
             })
     );
+    Ok(())
+}
+
+// Whether the bytes are decoded within so many nodes, and not within one less.
+fn has_nodes(alloc: Global, node: SchemaNode, bytes: &[u8], nodes: usize) -> bool {
+    let Ok(schema) = Schema::new(node) else {
+        return false;
+    };
+    let Ok(value) = decode_value(alloc, &schema, bytes) else {
+        return false;
+    };
+    let within = match decode_value_within(alloc, &schema, bytes, nodes) {
+        Ok(again) => again == value,
+        Err(_) => false,
+    };
+    let refused = match decode_value_within(alloc, &schema, bytes, nodes - 1) {
+        Ok(_) => false,
+        Err(error) => error.reason == Reason::TooManyNodes,
+    };
+    within && refused
+}
+
+#[test]
+fn nodes_are_counted(rt: HostRuntime) -> Result<(), Fail> {
+    let alloc = rt.alloc();
+    assert!(rt; has_nodes(alloc, SchemaNode::Unit, &[], 1));
+    assert!(rt; has_nodes(alloc, SchemaNode::NonZero(IntKind::U8), &[7], 1));
+    assert!(rt; has_nodes(alloc, SchemaNode::Duration, &[6, 200, 4, 1], 3));
+    let mut id = Vec::new(alloc);
+    for byte in 0..16 {
+        id.push(Value::U8(byte))?;
+    }
+    let bytes = encode_value(alloc, &Schema::new(SchemaNode::Uuid)?, &Value::Seq(id))?;
+    assert!(rt; has_nodes(alloc, SchemaNode::Uuid, &bytes, 17));
+    let units = SchemaNode::List(None, boxed(alloc, SchemaNode::Unit)?);
+    assert!(rt; has_nodes(alloc, units, &[3], 4));
+    let bytes = SchemaNode::Int(IntKind::U8);
+    let map = SchemaNode::Map(boxed(alloc, bytes)?, boxed(alloc, SchemaNode::Bool)?);
+    assert!(rt; has_nodes(alloc, map, &[2, 1, 2, 1], 7));
+    let array = SchemaNode::Array(2, boxed(alloc, SchemaNode::Bool)?);
+    assert!(rt; has_nodes(alloc, array, &[1], 3));
+    let fields = vec![in alloc; SchemaNode::Bool, SchemaNode::Bool, SchemaNode::Unit]?;
+    assert!(rt; has_nodes(alloc, SchemaNode::Tuple(fields), &[1, 0], 5));
+    assert!(rt; has_nodes(alloc, SchemaNode::Struct(Vec::new(alloc)), &[], 1));
+    let some = SchemaNode::Option(boxed(alloc, SchemaNode::Bool)?);
+    assert!(rt; has_nodes(alloc, some, &[1, 1], 2));
+    let none = SchemaNode::Option(boxed(alloc, SchemaNode::Bool)?);
+    assert!(rt; has_nodes(alloc, none, &[0], 2));
+    let one = enum_of(alloc, vec![in alloc; SchemaNode::Int(IntKind::U8)]?)?;
+    assert!(rt; has_nodes(alloc, one, &[5], 1));
+    let two = enum_of(alloc, vec![in alloc; SchemaNode::Int(IntKind::U8), SchemaNode::Unit]?)?;
+    assert!(rt; has_nodes(alloc, two, &[0, 5], 2));
     Ok(())
 }

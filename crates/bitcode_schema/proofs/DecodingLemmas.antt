@@ -1,13 +1,14 @@
 -- A whole input is made one value.
-use Rattle.std.proofs.Common.{◌≡◌, ◌≢◌, ℕ, Bool, Some, true, false, List, [], ◌∷◌, refl, sym, ap, subst, ◌∙◌}
+use Rattle.std.proofs.Common.{◌≡◌, ◌≢◌, ◌+◌, arith, ℕ, Bool, Some, true, false, List, [], ◌∷◌, refl, sym, ap, subst, ◌∙◌}
 use Rattle.std.proofs.lemmas.List.{append-nil}
 use Rattle.std.proofs.lemmas.List.Elements.{All-cons, All-nil}
 use Rattle.bitcode_memory.specs.declared.error.Reason.{Reason}
 use Rattle.bitcode_memory.specs.declared.error.Reason.TheVariants.{OutOfMemory}
 use Rattle.bitcode_columns.specs.Reading.{Reads}
-use Rattle.bitcode_shapes.specs.Datum.{Datum}
+use Rattle.bitcode_shapes.specs.Datum.{Datum, data_of}
 use Rattle.bitcode_shapes.specs.Lawful.{Lawful}
 use Rattle.bitcode_shapes.specs.Shape.{Shape, IsOf}
+use Rattle.bitcode_coder.specs.ColumnFree.{saturated}
 use Rattle.bitcode_coder.specs.Spelling.{Spells}
 use Rattle.bitcode_coder.proofs.LawLemmas.{texts_of-spread}
 use Rattle.bitcode_coder.proofs.LengthRefusalLemmas.{reads_once}
@@ -15,6 +16,8 @@ use Rattle.bitcode_coder.proofs.SpellingLemmas.{Spells-unambiguous, columns_byte
 use Rattle.bitcode_derive.specs.Strict.{StrictlySpellsDatum}
 use Rattle.bitcode_derive.specs.Whole.{HasShortLengths, IsEncodingOf, SpellsDatum, NamesWholeFault, in_columns, bytes_left, in_making, want_of_memory}
 use Rattle.bitcode_derive.proofs.DecodingLemmas.{spells_at_most_one}
+use Rattle.bitcode_untyped.specs.Nodes.{node_count, node_counts}
+use Rattle.bitcode_schema.specs.Counting.{CountsNodes}
 use Rattle.bitcode_schema.specs.Decoding.{IsDecodingUnder, IsStrictDecodingUnder}
 use Rattle.bitcode_derive.proofs.RoundTripLemmas.{written_spells}
 use Rattle.bitcode_schema.specs.Depth.{has_few_variants}
@@ -42,6 +45,14 @@ module _ (node : SchemaNode) (bytes : List ℕ) where
   strictly_made d strict spelled value m =
       let same : m.datum ≡ d = spells_at_most_one (shape_of node) bytes m.datum d m.spelled spelled in
       record { datum = d; spelled = strict; made = subst (λ e. content_under node value ≡ Some e) same m.made }
+
+  pub one_counted : (d : Datum) → SpellsDatum (shape_of node) bytes d → (rest : List ℕ) (nodes : ℕ) → CountsNodes (shape_of node) 1 bytes rest nodes
+      → saturated nodes ≡ saturated (node_count d)
+  one_counted d spelled rest nodes m =
+      let whole : Reads (Spells (shape_of node)) 1 bytes (d ∷ []) [] = record { size = refl; piece = bytes; whole = sym (append-nil bytes); spelled = spelled } in
+      let same = reads_once (Spells-unambiguous (shape_of node)) m.read whole in
+      let one : node_counts (data_of m.found) ≡ node_count d + 0 = ap (λ ds. node_counts (data_of ds)) same.0 in
+      m.counted ∙ ap saturated (let e : node_counts (data_of m.found) ≡ node_count d = omega (arith, one) in e)
 
 -- a fault that a check names is a fault of decoding
 pub named_in_decoding : (shape : Shape) (bytes : List ℕ) (reason : Reason) → NamesWholeFault true shape reason bytes → NamesWholeFault false shape reason bytes

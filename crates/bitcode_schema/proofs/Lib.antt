@@ -37,3 +37,5 @@ pub mod HeldLemmas
 pub mod PayloadMakingLemmas
 pub mod NodeMakingLemmas
 pub mod DecodingLemmas
+pub mod CountLemmas
+pub mod CountedLemmas

@@ -15,3 +15,4 @@ pub mod Encoding
 pub mod Making
 pub mod LeafValues
 pub mod Decoding
+pub mod Counting

@@ -1,13 +1,16 @@
 //! Decoding values by a schema.
-ghost use Rattle.std.specs.Prelude.{◌≡◌, ◌≢◌, false, IfOk, IfErr};
+ghost use Rattle.std.specs.Prelude.{◌≡◌, ◌≢◌, ◌≤◌, false, IfOk, OnOk, IfErr};
 ghost use Rattle.bitcode_shapes.specs.Datum.{Datum};
 ghost use Rattle.bitcode_coder.specs.Coder.{IsReadingReason};
+ghost use Rattle.bitcode_coder.specs.ColumnFree.{saturated};
 ghost use Rattle.bitcode_derive.specs.Strict.{IsStrictRefusal};
 ghost use Rattle.bitcode_derive.specs.Whole.{SpellsDatum, SpellsAtMostOne, IsBoundedByBytes, NamesWholeFault};
-ghost use Rattle.bitcode_schema.specs.Decoding.{IsDecodingUnder, IsStrictDecodingUnder};
+ghost use Rattle.bitcode_untyped.specs.Nodes.{node_count};
+ghost use Rattle.bitcode_schema.specs.Decoding.{IsDecodingUnder, IsRefusalWithin, IsStrictDecodingUnder};
 ghost use Rattle.bitcode_schema.specs.Forms.{shape_of};
 
 use crate::check::{check_value, check_value_strict};
+use crate::make::count::count;
 use crate::make::make;
 use crate::schema::Schema;
 use bitcode_memory::error::{Error, Reason};
@@ -31,10 +34,25 @@ fn make_one(alloc: Global, schema: &Schema, bytes: &[u8]) -> Result<Value, Error
     }
 }
 
+// Counts the nodes of the one value that the bytes spell. Only an allocation can fail.
+fn count_one(alloc: Global, schema: &Schema, bytes: &[u8]) -> Result<u128, Error>
+    requires spelled { (d : Datum) × SpellsDatum (shape_of schema.now.root) bytes.now d }
+    ensures counted { IfOk result
+        (λ nodes. (d : Datum) → SpellsDatum (shape_of schema.now.root) bytes.now d
+        → saturated nodes ≡ saturated (node_count d)) }
+    ensures refused { IfErr result (λ e. e.reason ≡ Reason.OutOfMemory) }
+{
+    let mut input = bytes;
+    match count(alloc, schema.root(), &mut input, 1) {
+        Ok(nodes) => Ok(nodes),
+        Err(_) => err(Reason::OutOfMemory),
+    }
+}
+
 /// Decodes the bytes, which must encode exactly one value of the schema.
 ///
 /// It validates the input completely before it makes the value, and accepts no trailing bytes. A few bytes may encode
-/// millions of elements, and each is allocated.
+/// millions of elements, and each is allocated: decode untrusted input with [`decode_value_within`].
 ///
 /// Errors: the first fault of the input, `Expected EOF` if bytes are left after the value, and `out of memory` if an
 /// allocation fails: for a column, once all its bytes are there, or for the value, once the bytes are known to encode
@@ -81,5 +99,43 @@ pub fn decode_value_strict(alloc: Global, schema: &Schema, bytes: &[u8]) -> Resu
         → NamesWholeFault false (shape_of schema.now.root) e.reason bytes.now) }
 {
     check_value_strict(alloc, schema, bytes)?;
+    make_one(alloc, schema, bytes)
+}
+
+/// Decodes the bytes as [`decode_value`] does, if the value has at most `limit` nodes.
+///
+/// Each unit, number, text, list, pair and variant in the value is a node, and so is the value itself. A map is a list
+/// of pairs, and the fields of a tuple or struct are nested pairs, so that `n` of them have `n - 1`. `Some(true)` and
+/// `None` have 2 nodes each. Nothing is made before the nodes are counted. So use this call for untrusted input, and
+/// limit the input's size too: each column takes memory.
+///
+/// Errors: those of `decode_value`, and `too many nodes` if the bytes encode a value with more than `limit` nodes.
+///
+/// ```
+/// let schema = Schema::new(SchemaNode::List(None, Box::new(alloc, SchemaNode::Unit)?))?;
+/// decode_value_within(alloc, &schema, &[2], 3)?; // Value::Seq of two units
+/// decode_value_within(alloc, &schema, &[3], 3)?; // `too many nodes`
+/// ```
+pub fn decode_value_within(
+    alloc: Global,
+    schema: &Schema,
+    bytes: &[u8],
+    limit: usize,
+) -> Result<Value, Error>
+    ensures found { IfOk result (λ value. IsDecodingUnder schema.now.root bytes.now value) }
+    ensures within { OnOk result ((d : Datum) → SpellsDatum (shape_of schema.now.root) bytes.now d
+        → node_count d ≤ limit) }
+    ensures unambiguous { SpellsAtMostOne (shape_of schema.now.root) bytes.now }
+    ensures bounded { IsBoundedByBytes (shape_of schema.now.root) bytes.now }
+    ensures refused { IfErr result
+        (λ e. IsRefusalWithin limit (shape_of schema.now.root) e.reason bytes.now) }
+    ensures exact { IfErr result
+        (λ e. e.reason ≢ Reason.TooManyNodes
+        → NamesWholeFault false (shape_of schema.now.root) e.reason bytes.now) }
+{
+    check_value(alloc, schema, bytes)?;
+    if count_one(alloc, schema, bytes)? > limit as u128 {
+        return err(Reason::TooManyNodes);
+    }
     make_one(alloc, schema, bytes)
 }

@@ -31,6 +31,7 @@ use std::alloc::Global;
 use std::collections::VecDeque;
 
 mod becomes;
+pub(crate) mod count;
 mod deal;
 mod gather;
 mod leaf_values;
