@@ -1,6 +1,6 @@
 -- How many nodes data have that are made of others.
-use Rattle.std.proofs.Common.{◌≡◌, ◌≢◌, ℕ, zero, suc, ◌+◌, ◌-◌, ◌*◌, ◌<◌, ◌≤◌, leb, cond, map, replicate, List, [], ◌∷◌, ◌++◌, length, take, drop, sum, All, ◌==◌, refl, sym, ap, ap₂, subst, ◌∙◌, arith, inl, inr, get_or-set_same, length-drop}
-use Rattle.std.specs.Prelude.{slice_index_or, slice_set}
+use Rattle.std.proofs.Common.{◌≡◌, ◌≢◌, ℕ, zero, suc, ◌+◌, ◌-◌, ◌*◌, ◌<◌, ◌≤◌, leb, cond, map, replicate, List, [], ◌∷◌, ◌++◌, length, take, drop, sum, All, ◌==◌, refl, sym, ap, subst, ◌∙◌, arith, inl, inr, get_or-set_same, length-drop}
+use Rattle.std.specs.Prelude.{slice_set}
 use Rattle.std.proofs.Math.Nat.{suc-mul}
 use Rattle.std.proofs.lemmas.Bool.{cases_Bool, cond-true, cond-false, le-leb}
 use Rattle.std.proofs.lemmas.List.{take-append-drop, get_or-set_other}
@@ -8,7 +8,6 @@ use Rattle.std.proofs.lemmas.List.Elements.{All-head, All-tail}
 use Rattle.std.proofs.lemmas.List.Sums.{sum_by-cons}
 use Rattle.bitcode_columns.specs.Histogram.{count_of}
 use Rattle.bitcode_shapes.specs.Datum.{Datum, list, pair, choice, data_of}
-use Rattle.bitcode_coder.specs.Cutting.{cut}
 use Rattle.bitcode_coder.proofs.LengthPartLemmas.{taken_from}
 use Rattle.bitcode_parts.specs.Lists.{lists_of}
 use Rattle.bitcode_parts.specs.Payloads.{payloads_of, next_choice, choices_of}

@@ -1,19 +1,18 @@
 -- The nodes of data that were read are counted.
-use Rattle.std.proofs.Common.{◌≡◌, ℕ, suc, ◌+◌, ◌*◌, ◌^◌, ◌<◌, ◌≤◌, Bool, false, List, [], ◌∷◌, length, sum, replicate, All, Option, None, refl, sym, ap, ap₂, subst, ◌∙◌, inl, inr, arith, get_or-set_same, length-set}
+use Rattle.std.proofs.Common.{◌≡◌, ℕ, suc, ◌+◌, ◌*◌, ◌^◌, ◌<◌, ◌≤◌, Bool, false, List, [], length, sum, replicate, All, Option, None, sym, ap, subst, ◌∙◌, inl, inr, arith, get_or-set_same, length-set}
 use Rattle.std.specs.Prelude.{◌≢◌, slice_set}
 use Rattle.std.specs.Float.{Format}
 use Rattle.std.proofs.lemmas.Bool.{cases_lt}
 use Rattle.std.proofs.lemmas.List.{length-replicate, get_or-set_other}
-use Rattle.std.proofs.lemmas.List.Elements.{All-head, All-tail, All-weaker}
+use Rattle.std.proofs.lemmas.List.Elements.{All-weaker}
 use Rattle.std.proofs.lemmas.List.Folds.{sum_by-replicate}
 use Rattle.bitcode_columns.specs.Histogram.{count_of}
 use Rattle.bitcode_columns.specs.Reading.{Reads}
 use Rattle.bitcode_columns.specs.VariantColumn.{SpellsVariants}
-use Rattle.bitcode_shapes.specs.Checked.{nanosecond_shape}
 use Rattle.bitcode_shapes.specs.Datum.{Datum, pair, list, data_of}
 use Rattle.bitcode_shapes.specs.Durations.{duration_shape}
 use Rattle.bitcode_shapes.specs.Ints.{int_shape}
-use Rattle.bitcode_shapes.specs.Shape.{Shape, Shapes, Allowed, IsOf, unit_shape, never_shape, bool_shape, number_shape, float_shape, text_shape, seq_shape, map_shape, array_shape, pair_shape, choice_shape, variant_count}
+use Rattle.bitcode_shapes.specs.Shape.{Shape, Shapes, Allowed, IsOf, unit_shape, bool_shape, number_shape, float_shape, text_shape, seq_shape, map_shape, array_shape, pair_shape, choice_shape, variant_count}
 use Rattle.bitcode_coder.specs.ColumnFree.{saturated}
 use Rattle.bitcode_coder.specs.LengthColumn.{SpellsLengths}
 use Rattle.bitcode_coder.specs.Spelling.{Spells}

@@ -1,5 +1,5 @@
 -- By the variant of the node; lengths and variants first, and then what they are of.
-use Rattle.std.proofs.Common.{rules, ◌≡◌, ◌+◌, ◌∙◌, ◌≤◌, ◌<◌, ◌*◌, ◌^◌, refl, sym, subst, length, false, All, None, arith}
+use Rattle.std.proofs.Common.{rules, ◌≡◌, ◌+◌, ◌∙◌, ◌≤◌, ◌<◌, ◌*◌, ◌^◌, sym, subst, length, false, None, arith}
 use Rattle.std.proofs.lemmas.Bool.{false≢true}
 use Rattle.bitcode_memory.specs.Fast.{cow_rest}
 use Rattle.bitcode_shapes.specs.Shape.{IsOf, pair_shape, unit_shape}
