@@ -509,6 +509,24 @@ fn strict_checks(rt: HostRuntime) -> Result<(), Fail> {
     Ok(())
 }
 
+// Lists in one another, as many as a schema may have, and one value in them all.
+#[test]
+fn the_deepest_lists(rt: HostRuntime) -> Result<(), Fail> {
+    let alloc = rt.alloc();
+    let mut node = SchemaNode::Bool;
+    let mut bytes = Vec::new(alloc);
+    for _ in 1..512 {
+        node = SchemaNode::List(None, boxed(alloc, node)?);
+        bytes.push(1)?;
+    }
+    bytes.push(1)?;
+    let schema = Schema::new(node)?;
+    assert!(rt; fault(alloc, &schema, bytes.as_slice()) == None);
+    assert!(rt; decode_value_within(alloc, &schema, bytes.as_slice(), 512).is_ok());
+    assert!(rt; decode_value_within(alloc, &schema, bytes.as_slice(), 511).is_err());
+    Ok(())
+}
+
 // Whether the bytes are decoded within so many nodes, and not within one less.
 fn has_nodes(alloc: Global, node: SchemaNode, bytes: &[u8], nodes: usize) -> bool {
     let Ok(schema) = Schema::new(node) else {

@@ -10,7 +10,7 @@ use bitcode_untyped::value::Value;
 use std::alloc::Global;
 use std::collections::VecDeque;
 
-// Takes the next payload of a variant.
+// Takes the next payload of a variant. As many were made as the variant has, so one is never missing.
 fn next(payloads: &mut Vec<VecDeque<Value>>, variant: usize) -> Result<Value, Error>
     ensures { IfOk result
         (λ value. Deals variant value (map (λ p. p.items) payloads.old.items)
