@@ -106,8 +106,8 @@ pub fn decode_value_strict(alloc: Global, schema: &Schema, bytes: &[u8]) -> Resu
 ///
 /// Each unit, number, text, list, pair and variant in the value is a node, and so is the value itself. A map is a list
 /// of pairs, and the fields of a tuple or struct are nested pairs, so that `n` of them have `n - 1`. `Some(true)` and
-/// `None` have 2 nodes each. Nothing is made before the nodes are counted. So use this call for untrusted input, and
-/// limit the input's size too: each column takes memory.
+/// `None` have 2 nodes each, and an enum with only one variant adds none. Nothing is made before the nodes are counted.
+/// So use this call for untrusted input, and limit the input's size too: each column takes memory.
 ///
 /// Errors: those of `decode_value`, and `too many nodes` if the bytes encode a value with more than `limit` nodes.
 ///
