@@ -1,7 +1,6 @@
 -- The nodes of data that were read are counted.
 use Rattle.std.proofs.Common.{◌≡◌, ℕ, suc, ◌+◌, ◌*◌, ◌^◌, ◌<◌, ◌≤◌, Bool, false, List, [], length, sum, replicate, All, Option, None, sym, ap, subst, ◌∙◌, inl, inr, arith, get_or-set_same, length-set}
 use Rattle.std.specs.Prelude.{◌≢◌, slice_set}
-use Rattle.std.specs.Float.{Format}
 use Rattle.std.proofs.lemmas.Bool.{cases_lt}
 use Rattle.std.proofs.lemmas.List.{length-replicate, get_or-set_other}
 use Rattle.std.proofs.lemmas.List.Elements.{All-weaker}
@@ -9,10 +8,9 @@ use Rattle.std.proofs.lemmas.List.Folds.{sum_by-replicate}
 use Rattle.bitcode_columns.specs.Histogram.{count_of}
 use Rattle.bitcode_columns.specs.Reading.{Reads}
 use Rattle.bitcode_columns.specs.VariantColumn.{SpellsVariants}
-use Rattle.bitcode_shapes.specs.Datum.{Datum, pair, list, data_of}
-use Rattle.bitcode_shapes.specs.Durations.{duration_shape}
+use Rattle.bitcode_shapes.specs.Datum.{Datum, list, data_of}
 use Rattle.bitcode_shapes.specs.Ints.{int_shape}
-use Rattle.bitcode_shapes.specs.Shape.{Shape, Shapes, Allowed, IsOf, unit_shape, bool_shape, number_shape, float_shape, text_shape, seq_shape, map_shape, array_shape, pair_shape, choice_shape, variant_count}
+use Rattle.bitcode_shapes.specs.Shape.{Shape, Shapes, IsOf, unit_shape, seq_shape, map_shape, array_shape, pair_shape, choice_shape, variant_count}
 use Rattle.bitcode_coder.specs.ColumnFree.{saturated}
 use Rattle.bitcode_coder.specs.LengthColumn.{SpellsLengths}
 use Rattle.bitcode_coder.specs.Spelling.{Spells}
@@ -36,25 +34,6 @@ use Rattle.bitcode_schema.proofs.DealLemmas.{cases_same}
 
 pub unit_node : (d : Datum) → IsOf unit_shape d → node_count d ≡ 1
 unit_node d is = ap node_count is
-
-pub bool_node : (d : Datum) → IsOf bool_shape d → node_count d ≡ 1
-bool_node d is = ap node_count is.is
-
-pub number_node : (width : ℕ) (signed : Bool) (allowed : Allowed) (d : Datum) → IsOf (number_shape width signed allowed) d → node_count d ≡ 1
-number_node width signed allowed d is = ap node_count is.is
-
-pub float_node : (format : Format) (d : Datum) → IsOf (float_shape format) d → node_count d ≡ 1
-float_node format d is = ap node_count is.is
-
-pub text_node : (limit : Option ℕ) (d : Datum) → IsOf (text_shape limit) d → node_count d ≡ 1
-text_node limit d is = ap node_count is.is
-
-pub duration_nodes : (d : Datum) → IsOf duration_shape d → node_count d ≡ 3
-duration_nodes d is =
-    let first = ap node_count is.is_first.is in
-    let second = ap node_count is.is_second.is in
-    let whole : node_count (pair is.first is.second) ≡ 1 + (node_count is.first + node_count is.second) = omega arith in
-    ap node_count is.is ∙ (let e : node_count (pair is.first is.second) ≡ 3 = omega (arith, first, second, whole) in e)
 
 pub id_nodes : (d : Datum) → IsOf (array_shape 16 (int_shape 1 false)) d → node_count d ≡ 17
 id_nodes d is =

@@ -19,9 +19,6 @@ use Rattle.bitcode_untyped.specs.declared.value.Value.{Value}
 pub record DealtTo (all : List ℕ) (before : List (List Value)) (left : List ℕ) (now : List (List Value)) (choices : List (ℕ × Value)) : Type 0 where
   pub more : (behind : List (ℕ × Value)) → AreDealt left now behind → AreDealt all before (choices ++ behind)
 
-pub dealt_none : (all : List ℕ) (before : List (List Value)) (choices : List (ℕ × Value)) → choices ≡ [] → DealtTo all before all before choices
-dealt_none all before choices none = record { more = λ behind each. subst (λ cs. AreDealt all before (cs ++ behind)) (sym none) each }
-
 pub dealt_next : (all : List ℕ) (before : List (List Value)) (old left : List ℕ) (now next : List (List Value)) (choices after : List (ℕ × Value)) (variant : ℕ) (value : Value)
     → DealtTo all before old now choices → old ≡ variant ∷ left → Deals variant value now next → after ≡ choices ++ (variant, value) ∷ []
     → DealtTo all before left next after

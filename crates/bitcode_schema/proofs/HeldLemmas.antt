@@ -1,11 +1,10 @@
 -- What values hold that are made of others.
-use Rattle.std.proofs.Common.{Box, Global, ◌≡◌, ℕ, Bool, All, ◌/◌, zero, suc, ◌<◌, ◌*◌, ◌^◌, leb, Option, Some, None, List, [], ◌∷◌, ◌++◌, length, take, drop, map, sum, replicate, arith, length-append, ◌+◌, refl, sym, ap, ap₂, subst, ◌∙◌, ⊎_elim}
+use Rattle.std.proofs.Common.{Box, Global, ◌≡◌, ℕ, ◌/◌, zero, suc, ◌<◌, ◌*◌, ◌^◌, leb, Option, Some, None, List, [], ◌∷◌, ◌++◌, length, take, drop, map, sum, replicate, arith, length-append, ◌+◌, refl, sym, ap, ap₂, subst, ◌∙◌, ⊎_elim}
 use Rattle.std.specs.List.{AllZip}
 use Rattle.std.proofs.lemmas.Bool.{cond-true, cond-false, cases_Bool}
-use Rattle.std.proofs.lemmas.List.Elements.{All-head}
 use Rattle.bitcode_columns.specs.Reading.{Reads}
 use Rattle.bitcode_shapes.specs.Datum.{Datum, list, pair, data_of}
-use Rattle.bitcode_shapes.specs.Shape.{Shape, IsOf, never_shape, seq_shape, map_shape, array_shape, pair_shape}
+use Rattle.bitcode_shapes.specs.Shape.{Shape, seq_shape, map_shape, array_shape, pair_shape}
 use Rattle.bitcode_coder.specs.Cutting.{cut}
 use Rattle.bitcode_coder.specs.LengthColumn.{SpellsLengths}
 use Rattle.bitcode_parts.specs.Lists.{lists_of}
@@ -16,7 +15,6 @@ use Rattle.bitcode_tuples.specs.Pairs.{pairs_of}
 use Rattle.bitcode_tuples.proofs.ReadingLemmas.{reads_pairs}
 use Rattle.bitcode_schema.specs.Forms.{Content, changed, both, list_content, fields_content, fields_datum, leaf_content, span_contents}
 use Rattle.bitcode_schema.specs.Leaves.{int_leaf}
-use Rattle.bitcode_schema.specs.Reading.{ReadsData}
 use Rattle.bitcode_schema.specs.declared.schema.IntKind.TheVariants as int
 use Rattle.bitcode_schema.specs.Making.{MakesData, optional}
 use Rattle.bitcode_schema.specs.Views.{Hold, under, fields_of, boxed, option_held, option_of}
@@ -129,16 +127,6 @@ module _ {A B : Type 0} (p : A → Option Datum) (q : B → Option Datum) (s t :
 pub makes_maps : (content : Content) (s t : Shape) (k : ℕ) (old new : List ℕ) (values : List Value)
     → MakesData (seq_shape None (pair_shape s t)) content k old new values → MakesData (map_shape s t) content k old new values
 makes_maps content s t k old new values m = record { found = m.found; read = reads_map s t k old new m.found m.read; made = m.made }
-
--- ---- nothing
-
-pub makes_none : {A : Type 0} (content : A → Option Datum) (k : ℕ) (old new : List ℕ) (strict w : Bool) (xs : List A) → ReadsData never_shape k strict old new w → xs ≡ []
-    → MakesData never_shape content k old new xs
-makes_none content k old new strict w xs r none = record { found = r.found; read = r.read; made = subst (λ ys. Hold content ys r.found) (sym none) (nothing r.found r.read.spelled.of_shape) }
-  where
-    nothing : (ds : List Datum) → All (IsOf never_shape) ds → Hold content [] ds
-    nothing [] each = tt
-    nothing (d ∷ ds) each = absurd (All-head (IsOf never_shape) d ds each)
 
 -- ---- fields
 
