@@ -1,8 +1,9 @@
 //! Values that are encoded and decoded by a schema, with the bytes of the Rust crate for the type that the schema
 //! describes.
-use bitcode::{Reason, Value};
+use bitcode::{Reason, Value, encode};
 use bitcode_schema::decode::decode_value;
 use bitcode_schema::encode::encode_value;
+use bitcode_schema::laws::{comes_back, reads_encoded};
 use bitcode_schema::schema::{IntKind, Schema, SchemaNode};
 use std::alloc::Global;
 use std::test::Fail;
@@ -16,7 +17,9 @@ fn has(alloc: Global, node: SchemaNode, value: &Value, bytes: &[u8]) -> bool {
         Ok(written) => written.as_slice() == bytes,
         Err(_) => false,
     };
-    let read = match decode_value(alloc, &schema, bytes) {
+    let again = decode_value(alloc, &schema, bytes);
+    comes_back(&schema, value, bytes, &again);
+    let read = match again {
         Ok(again) => again == *value,
         Err(_) => false,
     };
@@ -117,5 +120,19 @@ fn values_of_other_nodes_are_refused(rt: HostRuntime) -> Result<(), Fail> {
     assert!(rt; is_stranger(alloc, short, &two));
     let option = SchemaNode::Option(Box::new(alloc, SchemaNode::Bool)?);
     assert!(rt; is_stranger(alloc, option, &Value::Bool(true)));
+    Ok(())
+}
+
+#[test]
+fn what_encode_writes_is_decoded(rt: HostRuntime) -> Result<(), Fail> {
+    let alloc = rt.alloc();
+    let pair = (true, 7u16);
+    let bytes = encode(alloc, &pair)?;
+    let fields = vec![in alloc; SchemaNode::Bool, SchemaNode::Int(IntKind::U16)]?;
+    let schema = Schema::new(SchemaNode::Tuple(fields))?;
+    let value = decode_value(alloc, &schema, bytes.as_slice());
+    reads_encoded(&pair, &schema, bytes.as_slice(), &value);
+    let expected = Value::Tuple(vec![in alloc; Value::Bool(true), Value::U16(7)]?);
+    assert!(rt; value? == expected);
     Ok(())
 }
