@@ -19,8 +19,8 @@ LIBRARY = (
 
 # ---- types
 
-UNSIGNED = {"u8": 1, "u16": 2, "u32": 4, "u64": 8, "u128": 16}
-SIGNED = {"i8": 1, "i16": 2, "i32": 4, "i64": 8, "i128": 16}
+UNSIGNED = {"u8": 1, "u16": 2, "u32": 4, "u64": 8, "u128": 16, "usize": 8}
+SIGNED = {"i8": 1, "i16": 2, "i32": 4, "i64": 8, "i128": 16, "isize": 8}
 LEAVES = {
     "bool": ("bool_tree", "truth"),
     "char": ("char_tree", "natural"),
@@ -36,7 +36,12 @@ SOUND |= {name: f"width_{width}" for name, width in (UNSIGNED | SIGNED).items()}
 
 # the maps, with the functions that make them of pairs, and the keys that they may have
 MAPS = {"BTreeMap": "ordered_map", "HashMap": "hashed_map"}
-KEYS = {*UNSIGNED, *SIGNED, "char", "String"}
+KEYS = {*UNSIGNED, *SIGNED, "char", "String"} - {"usize", "isize"}
+
+# the types that stand for another one, with that one as a term of their value
+HOLDERS = {"Box": "b.value", "Rc": "(rc_value b)", "Arc": "(arc_value b)", "Wrapping": "b.0", "Saturating": "b.0"}
+# the ends of a range, as terms of the range
+RANGES = {"Range": ("r.start", "r.end"), "RangeInclusive": ("(range_inclusive_start r)", "(range_inclusive_end r)")}
 
 
 def rust(type_):
@@ -199,9 +204,11 @@ def tree_of(type_, left):
         return f"(tuple_tree {trees})" if type_.parts else "unit_tree"
     if type_.kind == "path" and not type_.parts and type_.name in LEAVES:
         return LEAVES[type_.name][0]
-    if type_.kind == "path" and len(type_.parts) == 1 and type_.name in ("Vec", "Option", "Box"):
+    if type_.kind == "path" and len(type_.parts) == 1 and type_.name in ("Vec", "Option", *HOLDERS, *RANGES):
         inner = tree_of(type_.parts[0], left)
-        return {"Vec": f"(seq_tree {inner})", "Option": f"(option_tree {inner})", "Box": inner}[type_.name]
+        if type_.name in RANGES:
+            return f"(tuple_tree (tree_and {inner} (tree_and {inner} no_trees)))"
+        return {"Vec": f"(seq_tree {inner})", "Option": f"(option_tree {inner})"}.get(type_.name, inner)
     if is_map(type_):
         key, value = (tree_of(part, left) for part in type_.parts)
         return f"(map_tree {key} {value})"
@@ -232,11 +239,12 @@ def datum_of(type_):
         ok, err = map(datum_of, type_.parts)
         return f"(result_datum {ok} {err})"
     inner = datum_of(type_.parts[0])
-    return {
-        "Vec": f"(λ v. list (data_of (map {inner} v.items)))",
-        "Option": f"(option_datum {inner})",
-        "Box": f"(λ b. {applied(inner, 'b.value')})",
-    }[type_.name]
+    if type_.name in HOLDERS:
+        return f"(λ b. {applied(inner, HOLDERS[type_.name])})"
+    if type_.name in RANGES:
+        start, end = (applied(inner, bound) for bound in RANGES[type_.name])
+        return f"(λ r. tuple (datum_and {start} (datum_and {end} no_data)))"
+    return {"Vec": f"(λ v. list (data_of (map {inner} v.items)))", "Option": f"(option_datum {inner})"}[type_.name]
 
 
 def sound_of(type_, left):
@@ -254,6 +262,8 @@ def sound_of(type_, left):
     if is_result(type_):
         return sounds([sound_of(part, left) for part in type_.parts])
     inner = sound_of(type_.parts[0], left)
+    if type_.name in RANGES:
+        return sounds([inner, inner])
     return f"(tt, ({inner}, tt))" if type_.name == "Option" else inner
 
 
@@ -267,7 +277,7 @@ def sounds(each):
 def has_columns(type_):
     if type_.kind == "tuple":
         return any(map(has_columns, type_.parts[:1])) and True if type_.parts else False
-    return type_.name != "Box" or has_columns(type_.parts[0])
+    return type_.name not in (*HOLDERS, *RANGES) or has_columns(type_.parts[0])
 
 
 def trees_of(parts, left):

@@ -172,6 +172,30 @@ impl SerializeAs for i128 {
     }
 }
 
+impl SerializeAs for usize {
+    ghost tree = { ⟦<u64 as SerializeAs>⟧.tree };
+
+    ghost datum = { natural };
+
+    ghost sound = { ⟦<u64 as SerializeAs>⟧.sound };
+
+    fn write(&self, writer: &mut Writer, left: usize, place: usize) -> Result<(), Error> {
+        (*self as u64).write(writer, left, place)
+    }
+}
+
+impl SerializeAs for isize {
+    ghost tree = { ⟦<i64 as SerializeAs>⟧.tree };
+
+    ghost datum = { number };
+
+    ghost sound = { ⟦<i64 as SerializeAs>⟧.sound };
+
+    fn write(&self, writer: &mut Writer, left: usize, place: usize) -> Result<(), Error> {
+        (*self as i64).write(writer, left, place)
+    }
+}
+
 impl SerializeAs for f32 {
     ghost tree = { λ left. float_tree binary32 };
 
