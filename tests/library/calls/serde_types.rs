@@ -111,30 +111,6 @@ fn tuples_come_back(rt: HostRuntime) -> Result<(), Error> {
     assert!(rt; comes_back(alloc, &(0u8, 1u8, 2u8, 3u8, 4u8, 5u8, 6u8), node, &value)?);
     let (node, value) = bytes_of(alloc, 8)?;
     assert!(rt; comes_back(alloc, &(0u8, 1u8, 2u8, 3u8, 4u8, 5u8, 6u8, 7u8), node, &value)?);
-    let (node, value) = bytes_of(alloc, 9)?;
-    let many = (0u8, 1u8, 2u8, 3u8, 4u8, 5u8, 6u8, 7u8, 8u8);
-    assert!(rt; comes_back(alloc, &many, node, &value)?);
-    let (node, value) = bytes_of(alloc, 10)?;
-    let many = (0u8, 1u8, 2u8, 3u8, 4u8, 5u8, 6u8, 7u8, 8u8, 9u8);
-    assert!(rt; comes_back(alloc, &many, node, &value)?);
-    let (node, value) = bytes_of(alloc, 11)?;
-    let many = (0u8, 1u8, 2u8, 3u8, 4u8, 5u8, 6u8, 7u8, 8u8, 9u8, 10u8);
-    assert!(rt; comes_back(alloc, &many, node, &value)?);
-    let (node, value) = bytes_of(alloc, 12)?;
-    let many = (0u8, 1u8, 2u8, 3u8, 4u8, 5u8, 6u8, 7u8, 8u8, 9u8, 10u8, 11u8);
-    assert!(rt; comes_back(alloc, &many, node, &value)?);
-    let (node, value) = bytes_of(alloc, 13)?;
-    let many = (0u8, 1u8, 2u8, 3u8, 4u8, 5u8, 6u8, 7u8, 8u8, 9u8, 10u8, 11u8, 12u8);
-    assert!(rt; comes_back(alloc, &many, node, &value)?);
-    let (node, value) = bytes_of(alloc, 14)?;
-    let many = (0u8, 1u8, 2u8, 3u8, 4u8, 5u8, 6u8, 7u8, 8u8, 9u8, 10u8, 11u8, 12u8, 13u8);
-    assert!(rt; comes_back(alloc, &many, node, &value)?);
-    let (node, value) = bytes_of(alloc, 15)?;
-    let many = (0u8, 1u8, 2u8, 3u8, 4u8, 5u8, 6u8, 7u8, 8u8, 9u8, 10u8, 11u8, 12u8, 13u8, 14u8);
-    assert!(rt; comes_back(alloc, &many, node, &value)?);
-    let (node, value) = bytes_of(alloc, 16)?;
-    let many = (0u8, 1u8, 2u8, 3u8, 4u8, 5u8, 6u8, 7u8, 8u8, 9u8, 10u8, 11u8, 12u8, 13u8, 14u8, 15u8);
-    assert!(rt; comes_back(alloc, &many, node, &value)?);
     Ok(())
 }
 
