@@ -4,6 +4,7 @@
 ghost use Rattle.std.specs.Range.{range_inclusive_end, range_inclusive_start};
 
 use crate::deserialize_as::DeserializeAs;
+use crate::entering::read_at;
 use crate::fields::write_tuple;
 use crate::serialize_as::SerializeAs;
 use bitcode_memory::error::Error;
@@ -37,7 +38,7 @@ impl<'a, T: DeserializeAs<'a>> DeserializeAs<'a> for Range<T> {
         left: usize,
         place: usize,
     ) -> Result<Range<T>, Error> {
-        let ends: (T, T) = <(T, T) as DeserializeAs<'a>>::read(alloc, reader, budget, left, place)?;
+        let ends: (T, T) = read_at(alloc, reader, budget, left, place)?;
         let (start, end) = ends;
         Ok(Range { start, end })
     }
@@ -46,7 +47,8 @@ impl<'a, T: DeserializeAs<'a>> DeserializeAs<'a> for Range<T> {
 impl<T: SerializeAs> SerializeAs for RangeInclusive<T> {
     ghost tree = { ⟦<(T, T) as SerializeAs>⟧.tree };
 
-    ghost datum = { λ t. ⟦<(T, T) as SerializeAs>⟧.datum (range_inclusive_start t, range_inclusive_end t) };
+    ghost datum = { λ t. ⟦<(T, T) as SerializeAs>⟧.datum
+        (range_inclusive_start t, range_inclusive_end t) };
 
     ghost sound = { ⟦<(T, T) as SerializeAs>⟧.sound };
 
@@ -67,7 +69,7 @@ impl<'a, T: DeserializeAs<'a>> DeserializeAs<'a> for RangeInclusive<T> {
         left: usize,
         place: usize,
     ) -> Result<RangeInclusive<T>, Error> {
-        let ends: (T, T) = <(T, T) as DeserializeAs<'a>>::read(alloc, reader, budget, left, place)?;
+        let ends: (T, T) = read_at(alloc, reader, budget, left, place)?;
         let (start, end) = ends;
         Ok(RangeInclusive::new(start, end))
     }
