@@ -40,8 +40,6 @@ KEYS = {*UNSIGNED, *SIGNED, "char", "String"} - {"usize", "isize"}
 
 # the types that stand for another one, with that one as a term of their value
 HOLDERS = {"Box": "b.value", "Rc": "(rc_value b)", "Arc": "(arc_value b)", "Wrapping": "b.0", "Saturating": "b.0"}
-# the ends of a range, as terms of the range
-RANGES = {"Range": ("r.start", "r.end"), "RangeInclusive": ("(range_inclusive_start r)", "(range_inclusive_end r)")}
 
 
 def rust(type_):
@@ -189,9 +187,19 @@ class Part:
 def applied(function, value):
     """A function of a value, as a term."""
     found = re.fullmatch(r"\(λ (\w+)\. (.*)\)", function)
-    if not found or f"λ {found[1]}." in found[2]:
-        return f"({function} {value})"
-    return "(" + re.sub(rf"(?<![\w.]){found[1]}(?!\w)", value, found[2]) + ")"
+    return f"({replaced(found[1], value, found[2])})" if found else f"({function} {value})"
+
+
+def replaced(name, value, text):
+    """The text with the value in the place of the name, but for functions in it that have a parameter of that name."""
+    at = text.find(f"(λ {name}.")
+    if at < 0:
+        return re.sub(rf"(?<![\w.]){name}(?!\w)", value, text)
+    end, depth = at, 0
+    while depth or end == at:
+        depth += {"(": 1, ")": -1}.get(text[end], 0)
+        end += 1
+    return replaced(name, value, text[:at]) + text[at:end] + replaced(name, value, text[end:])
 
 
 def tree_of(type_, left):
@@ -204,10 +212,10 @@ def tree_of(type_, left):
         return f"(tuple_tree {trees})" if type_.parts else "unit_tree"
     if type_.kind == "path" and not type_.parts and type_.name in LEAVES:
         return LEAVES[type_.name][0]
-    if type_.kind == "path" and len(type_.parts) == 1 and type_.name in ("Vec", "Option", *HOLDERS, *RANGES):
+    if type_.kind == "path" and len(type_.parts) == 1 and type_.name in ("Vec", "Option", *HOLDERS):
+        if type_.name in ("Rc", "Arc") and type_.parts[0].name in HOLDERS:
+            raise Refused(type_.line, f"`{rust(type_)}` is not supported in the second format yet")
         inner = tree_of(type_.parts[0], left)
-        if type_.name in RANGES:
-            return f"(tuple_tree (tree_and {inner} (tree_and {inner} no_trees)))"
         return {"Vec": f"(seq_tree {inner})", "Option": f"(option_tree {inner})"}.get(type_.name, inner)
     if is_map(type_):
         key, value = (tree_of(part, left) for part in type_.parts)
@@ -241,9 +249,6 @@ def datum_of(type_):
     inner = datum_of(type_.parts[0])
     if type_.name in HOLDERS:
         return f"(λ b. {applied(inner, HOLDERS[type_.name])})"
-    if type_.name in RANGES:
-        start, end = (applied(inner, bound) for bound in RANGES[type_.name])
-        return f"(λ r. tuple (datum_and {start} (datum_and {end} no_data)))"
     return {"Vec": f"(λ v. list (data_of (map {inner} v.items)))", "Option": f"(option_datum {inner})"}[type_.name]
 
 
@@ -262,8 +267,6 @@ def sound_of(type_, left):
     if is_result(type_):
         return sounds([sound_of(part, left) for part in type_.parts])
     inner = sound_of(type_.parts[0], left)
-    if type_.name in RANGES:
-        return sounds([inner, inner])
     return f"(tt, ({inner}, tt))" if type_.name == "Option" else inner
 
 
@@ -277,7 +280,7 @@ def sounds(each):
 def has_columns(type_):
     if type_.kind == "tuple":
         return any(map(has_columns, type_.parts[:1])) and True if type_.parts else False
-    return type_.name not in (*HOLDERS, *RANGES) or has_columns(type_.parts[0])
+    return type_.name not in HOLDERS or has_columns(type_.parts[0])
 
 
 def trees_of(parts, left):

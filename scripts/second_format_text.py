@@ -42,7 +42,6 @@ OF_SPECS = [
     ("std.specs.Prelude", "ℕ zero suc map string_bytes"),
     ("std.specs.Float", "binary32 binary64"),
     ("std.specs.Arc", "arc_value"),
-    ("std.specs.Range", "range_inclusive_end range_inclusive_start"),
     ("std.specs.Rc", "rc_value"),
     ("bitcode_shapes.specs.Datum", "Datum unit number text list tuple choice no_data datum_and data_of"),
     ("bitcode_shapes.specs.Floats", "float_number"),
@@ -156,7 +155,6 @@ OF_CODE = [
     ("std.specs.Prelude", "◌≡◌ ◌≤◌ ℕ length map string_bytes IfOk IfErr OnOk"),
     ("std.specs.Float", "binary32 binary64"),
     ("std.specs.Arc", "arc_value"),
-    ("std.specs.Range", "range_inclusive_end range_inclusive_start"),
     ("std.specs.Rc", "rc_value"),
     ("bitcode_shapes.specs.Datum", "unit number text list tuple no_data datum_and data_of"),
     ("bitcode_shapes.specs.Floats", "float_number"),
@@ -184,7 +182,6 @@ OF_LIBRARY = [
     ("std::alloc", "Global"),
     ("std::collections", " ".join([*MAPS, "BTreeSet", "HashSet"])),
     ("std::num", "Saturating Wrapping"),
-    ("std::ops", "Range RangeInclusive"),
     ("std::rc", "Rc"),
     ("std::sync", "Arc"),
 ]
