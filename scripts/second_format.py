@@ -19,8 +19,8 @@ LIBRARY = (
 
 # ---- types
 
-UNSIGNED = {"u8": 1, "u16": 2, "u32": 4, "u64": 8, "u128": 16}
-SIGNED = {"i8": 1, "i16": 2, "i32": 4, "i64": 8, "i128": 16}
+UNSIGNED = {"u8": 1, "u16": 2, "u32": 4, "u64": 8, "u128": 16, "usize": 8}
+SIGNED = {"i8": 1, "i16": 2, "i32": 4, "i64": 8, "i128": 16, "isize": 8}
 LEAVES = {
     "bool": ("bool_tree", "truth"),
     "char": ("char_tree", "natural"),
@@ -36,7 +36,10 @@ SOUND |= {name: f"width_{width}" for name, width in (UNSIGNED | SIGNED).items()}
 
 # the maps, with the functions that make them of pairs, and the keys that they may have
 MAPS = {"BTreeMap": "ordered_map", "HashMap": "hashed_map"}
-KEYS = {*UNSIGNED, *SIGNED, "char", "String"}
+KEYS = {*UNSIGNED, *SIGNED, "char", "String"} - {"usize", "isize"}
+
+# the types that stand for another one, with that one as a term of their value
+HOLDERS = {"Box": "b.value", "Rc": "(rc_value b)", "Arc": "(arc_value b)", "Wrapping": "b.0", "Saturating": "b.0"}
 
 
 def rust(type_):
@@ -184,9 +187,19 @@ class Part:
 def applied(function, value):
     """A function of a value, as a term."""
     found = re.fullmatch(r"\(λ (\w+)\. (.*)\)", function)
-    if not found or f"λ {found[1]}." in found[2]:
-        return f"({function} {value})"
-    return "(" + re.sub(rf"(?<![\w.]){found[1]}(?!\w)", value, found[2]) + ")"
+    return f"({replaced(found[1], value, found[2])})" if found else f"({function} {value})"
+
+
+def replaced(name, value, text):
+    """The text with the value in the place of the name, but for functions in it that have a parameter of that name."""
+    at = text.find(f"(λ {name}.")
+    if at < 0:
+        return re.sub(rf"(?<![\w.]){name}(?!\w)", value, text)
+    end, depth = at, 0
+    while depth or end == at:
+        depth += {"(": 1, ")": -1}.get(text[end], 0)
+        end += 1
+    return replaced(name, value, text[:at]) + text[at:end] + replaced(name, value, text[end:])
 
 
 def tree_of(type_, left):
@@ -199,9 +212,11 @@ def tree_of(type_, left):
         return f"(tuple_tree {trees})" if type_.parts else "unit_tree"
     if type_.kind == "path" and not type_.parts and type_.name in LEAVES:
         return LEAVES[type_.name][0]
-    if type_.kind == "path" and len(type_.parts) == 1 and type_.name in ("Vec", "Option", "Box"):
+    if type_.kind == "path" and len(type_.parts) == 1 and type_.name in ("Vec", "Option", *HOLDERS):
+        if type_.name in ("Rc", "Arc") and type_.parts[0].name in HOLDERS:
+            raise Refused(type_.line, f"`{rust(type_)}` is not supported in the second format yet")
         inner = tree_of(type_.parts[0], left)
-        return {"Vec": f"(seq_tree {inner})", "Option": f"(option_tree {inner})", "Box": inner}[type_.name]
+        return {"Vec": f"(seq_tree {inner})", "Option": f"(option_tree {inner})"}.get(type_.name, inner)
     if is_map(type_):
         key, value = (tree_of(part, left) for part in type_.parts)
         return f"(map_tree {key} {value})"
@@ -232,11 +247,9 @@ def datum_of(type_):
         ok, err = map(datum_of, type_.parts)
         return f"(result_datum {ok} {err})"
     inner = datum_of(type_.parts[0])
-    return {
-        "Vec": f"(λ v. list (data_of (map {inner} v.items)))",
-        "Option": f"(option_datum {inner})",
-        "Box": f"(λ b. {applied(inner, 'b.value')})",
-    }[type_.name]
+    if type_.name in HOLDERS:
+        return f"(λ b. {applied(inner, HOLDERS[type_.name])})"
+    return {"Vec": f"(λ v. list (data_of (map {inner} v.items)))", "Option": f"(option_datum {inner})"}[type_.name]
 
 
 def sound_of(type_, left):
@@ -267,7 +280,7 @@ def sounds(each):
 def has_columns(type_):
     if type_.kind == "tuple":
         return any(map(has_columns, type_.parts[:1])) and True if type_.parts else False
-    return type_.name != "Box" or has_columns(type_.parts[0])
+    return type_.name not in HOLDERS or has_columns(type_.parts[0])
 
 
 def trees_of(parts, left):

@@ -51,6 +51,29 @@ pub {fn}-returns-clause-read : goal.{fn}-returns-clause-read
 """
 
 
+# With more fields in a type, `search` gives up at one of its limits where it would find these answers otherwise.
+FEW_FIELDS = 5
+
+
+def has_many_fields(shaped):
+    parts = [shaped.parts] if shaped.is_struct else [parts for _, parts in shaped.variants]
+    return any(len(each) > FEW_FIELDS for each in parts)
+
+
+def list_keep_answer(shaped):
+    """That a list that does not grow is a refusal for want of memory."""
+    fn = f"read_{shaped.word}_list"
+    return f"""
+pub {fn}-returns-in_err-keep-clause-refused : goal.{fn}-returns-in_err-keep-clause-refused
+{fn}-returns-in_err-keep-clause-refused t c =
+    let s = {shaped.word}_tree c.args.left in
+    let y = err_from_is_err_and c.from_residual-in_err-keep.result c.from_residual-in_err-keep.ensures.1 in
+    passed_on (λ e. IsRefusalAt (seq_tree s) c.args.place c.args.reader.now e.reason) c.from_residual-in_err-keep.result
+    c.in_err-keep.field-0.0 y.0 y.1 y.2
+    (no_memory (seq_tree s) c.args.place c.args.reader.now _ c.in_err-keep.ensures.refused)
+"""
+
+
 def list_answers(shaped):
     w, one, fn = shaped.word, f"read_{shaped.word}", f"read_{shaped.word}_list"
     return f"""

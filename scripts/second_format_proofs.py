@@ -1,7 +1,15 @@
 """The proofs of a group of recursive types in the second format."""
 
 from second_format import SIGNED, applied, data_of, payload_tree, tree_of
-from second_format_containers import ENUM, list_answers, map_answers, option_answers
+from second_format_containers import (
+    ENUM,
+    FEW_FIELDS,
+    has_many_fields,
+    list_answers,
+    list_keep_answer,
+    map_answers,
+    option_answers,
+)
 from second_format_text import payload_datum, used, variant_name
 
 OF_LEMMAS = [
@@ -10,6 +18,8 @@ OF_LEMMAS = [
         "◌≡◌ ℕ zero suc ◌-◌ ◌<◌ false true Option Some None Box Global map refl ap ◌∙◌ arith sub-one string_bytes",
     ),
     ("std.specs.Float", "binary32 binary64"),
+    ("std.specs.Arc", "arc_value"),
+    ("std.specs.Rc", "rc_value"),
     ("bitcode_shapes.specs.Datum", "Datum unit number text list tuple choice datum_and no_data data_of"),
     ("bitcode_shapes.specs.Floats", "float_number"),
     ("bitcode_coder.specs.Spelling", "natural truth"),
@@ -22,6 +32,8 @@ OF_ANSWERS = [
     ("std.proofs.Common", "rules arith ◌≡◌ ◌<◌ ◌-◌ Some None [] map refl ap sym subst ◌∙◌ string_bytes"),
     ("std.proofs.lemmas.Result", "err_from_is_err_and"),
     ("std.specs.Float", "binary32 binary64"),
+    ("std.specs.Arc", "arc_value"),
+    ("std.specs.Rc", "rc_value"),
     ("bitcode_memory.specs.declared.error.Reason.TheVariants", "NestedTooDeep"),
     ("bitcode_shapes.specs.Datum", "Datum unit number text list tuple choice datum_and no_data data_of"),
     ("bitcode_shapes.specs.Floats", "float_number"),
@@ -41,7 +53,7 @@ OF_ANSWERS = [
     ("bitcode_serde_types.specs.ReadingAs", "ReadsEachAs"),
     (
         "bitcode_serde_types.proofs.FieldsRead",
-        "no_fields_kept place_there field_kept field_not_kept field_kept_at field_not_kept_at tuple_kept",
+        "no_fields_kept place_there inside_there field_kept field_not_kept field_kept_at field_not_kept_at tuple_kept",
     ),
     (
         "bitcode_serde_types.proofs.KeptLemmas",
@@ -300,7 +312,7 @@ def fields_answers(fn, trees, parts, more, datum, value, equation):
     """The answers of a function that reads fields, one after another. `more` tells the tree of a level."""
     head = "    let h : 0 < c.args.left = omega arith in\n" if more else ""
     turn = lambda inner: f"    rw ({more} c.args.left h)\n    ({inner})\n" if more else f"    {inner}\n"
-    text, fields, others = "", 0, 0
+    text, fields, others, called = "", 0, 0, []
     for n, part in enumerate(parts):
         found = f"value{n}" if part.kind == "box" else f"field{n}"
         if part.kind == "other":
@@ -323,6 +335,16 @@ pub {goal} : goal.{goal}
 pub {goal} : goal.{goal}
 {goal} t c =
 {lets(trees, parts, n)}    record {{ place = place_there {PRE} done{n} c.requires.place; steady = done{n}.continues.steady }}
+"""
+            if len(parts) > FEW_FIELDS:
+                called.append(part.function())
+                goal = f"{fn}-{counted(f'{part.function()}-requires', called.count(part.function()))}"
+                text += f"""
+pub {goal} : goal.{goal}
+{goal} t c =
+{lets(trees, parts, n)}    let k = inside_there {PRE} done{n} _ c.in_ok-place{n}.place{n} c.in_ok-place{n}.ensures.continues
+    c.in_ok-place{n}.ensures.found c.in_ok-place{n}.ensures.stands c.requires.place in
+    (search rules, (k, c.in_ok-place{n}.ensures.continues.steady))
 """
             refused = (
                 f"field_not_kept_at {PRE} done{n} _ c.in_ok-place{n}.place{n} c.in_ok-place{n}.ensures.continues\n"
@@ -513,6 +535,8 @@ def reading(group):
         text += option_answers(group, shaped)
     for shaped in group.lists:
         text += list_answers(shaped)
+        if any(map(has_many_fields, group.types)):
+            text += list_keep_answer(shaped)
     for part in group.maps:
         text += map_answers(part)
     return text

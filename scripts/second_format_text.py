@@ -41,6 +41,8 @@ def variant_name(shaped, variant):
 OF_SPECS = [
     ("std.specs.Prelude", "ℕ zero suc map string_bytes"),
     ("std.specs.Float", "binary32 binary64"),
+    ("std.specs.Arc", "arc_value"),
+    ("std.specs.Rc", "rc_value"),
     ("bitcode_shapes.specs.Datum", "Datum unit number text list tuple choice no_data datum_and data_of"),
     ("bitcode_shapes.specs.Floats", "float_number"),
     ("bitcode_shapes.specs.LawfulInts", "width_1 width_2 width_4 width_8 width_16"),
@@ -152,6 +154,8 @@ def payload_sound(parts):
 OF_CODE = [
     ("std.specs.Prelude", "◌≡◌ ◌≤◌ ℕ length map string_bytes IfOk IfErr OnOk"),
     ("std.specs.Float", "binary32 binary64"),
+    ("std.specs.Arc", "arc_value"),
+    ("std.specs.Rc", "rc_value"),
     ("bitcode_shapes.specs.Datum", "unit number text list tuple no_data datum_and data_of"),
     ("bitcode_shapes.specs.Floats", "float_number"),
     ("bitcode_coder.specs.Spelling", "natural truth"),
@@ -177,6 +181,9 @@ OF_LIBRARY = [
     ("bitcode_serde_types::variants", "write_variant"),
     ("std::alloc", "Global"),
     ("std::collections", " ".join([*MAPS, "BTreeSet", "HashSet"])),
+    ("std::num", "Saturating Wrapping"),
+    ("std::rc", "Rc"),
+    ("std::sync", "Arc"),
 ]
 
 

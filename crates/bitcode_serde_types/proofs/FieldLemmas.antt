@@ -25,7 +25,7 @@ field_of_count no_trees p i = refl
 field_of_count (tree_and s no_trees) p i = refl
 field_of_count (tree_and s (tree_and t ss)) p i = refl
 
-walk_of_fields : (ss : ShapeTrees) (p : Place) (i : ℕ) (ds : Data)
+pub walk_of_fields : (ss : ShapeTrees) (p : Place) (i : ℕ) (ds : Data)
     → walk_fields ss (λ j. field_at (tree_count ss) p j) i ds ≡ walk_fields ss (field_place ss p) i ds
 walk_of_fields no_trees p i ds = refl
 walk_of_fields (tree_and s no_trees) p i ds = refl

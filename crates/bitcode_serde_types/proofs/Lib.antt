@@ -4,6 +4,7 @@ pub mod ListLemmas
 pub mod FieldLemmas
 pub mod KeptLemmas
 pub mod FieldsRead
+pub mod RestOfFields
 pub mod EnteringLemmas
 pub mod RestatesLemmas
 pub mod EntryLemmas

@@ -1,3 +1,4 @@
+pub mod Bytes
 pub mod DeepFaults
 pub mod FieldsWritten
 pub mod Keys

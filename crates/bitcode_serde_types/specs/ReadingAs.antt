@@ -1,15 +1,17 @@
 -- What reading a value of a Rust type does.
 use Rattle.std.specs.Prelude.{◌≡◌, ℕ, List, map}
 use Rattle.std.specs.List.{AllZip}
-use Rattle.bitcode_shapes.specs.Datum.{Datum, data_of}
+use Rattle.bitcode_memory.specs.declared.error.Reason.{Reason}
+use Rattle.bitcode_shapes.specs.Datum.{Datum, Data, data_of}
 use Rattle.bitcode_untyped.specs.Nodes.{node_count, node_counts}
-use Rattle.bitcode_untyped.specs.ShapeTree.{ShapeTree}
+use Rattle.bitcode_untyped.specs.Reads.{ReadsFields, ReadsNoFields}
+use Rattle.bitcode_untyped.specs.ShapeTree.{ShapeTree, ShapeTrees}
 use Rattle.bitcode_untyped.specs.Spelling.{SpellsDatum}
 use Rattle.bitcode_serde.specs.Budget.{spend, IsLeft}
-use Rattle.bitcode_serde.specs.ReadingValues.{ReadsAt, ReadsFieldAt, ReadsListAt}
+use Rattle.bitcode_serde.specs.ReadingValues.{ReadsAt, ReadsFieldAt, ReadsListAt, GoesAlong, IsRefusalOf, field_at}
 use Rattle.bitcode_serde.specs.declared.budget.Budget.{Budget}
 use Rattle.bitcode_serde.specs.declared.reader.Reader.{Reader}
-use Rattle.bitcode_serde_types.specs.Restates.{Restates}
+use Rattle.bitcode_serde_types.specs.Restates.{Restates, RestatesFields}
 
 -- A datum is read and its nodes are taken from the budget. Unless that is spent, what is kept is this of the datum.
 pub record KeepsAs {A : Type 0} (Is : Datum → Datum → Type 0) (content : A → Datum) (Reads : Datum → Type 0) (before : Budget) (kept : A) (after : Budget) : Type 0 where
@@ -38,6 +40,21 @@ ReadsEachAs datum s place old before count ts new after =
 -- the same of field i of so many of a tuple at the place
 abbrev pub ReadsFieldAs : {A : Type 0} → (A → Datum) → ShapeTree → ℕ → ℕ → ℕ → Reader → Budget → A → Reader → Budget → Type 0
 ReadsFieldAs datum s place i fields old before t new after = KeepsAs (Restates s) datum (λ d. ReadsFieldAt s place i fields old d new) before t after
+
+-- ---- the fields of a tuple, from one on
+
+-- The fields from the i-th on of so many are read, and their nodes are taken from the budget. Unless that is spent,
+-- what is kept restates each.
+pub record ReadsFieldsAs {A : Type 0} (content : A → Data) (trees : ShapeTrees) (place i fields : ℕ) (old : Reader) (before : Budget) (kept : A) (new : Reader)
+    (after : Budget) : Type 0 where
+  pub found : Data
+  pub read : GoesAlong old place new (λ p a b. ReadsFields trees (λ j. field_at fields p j) i a found b)
+  pub taken : after ≡ spend (node_counts found) before
+  pub same : IsLeft after → RestatesFields trees found (content kept)
+
+-- a refusal other than want of memory comes only where these fields are not to be had
+abbrev pub IsFieldsRefusalAt : ShapeTrees → ℕ → ℕ → ℕ → Reader → Reason → Type 0
+IsFieldsRefusalAt trees place i fields old = IsRefusalOf old place (λ p a. ReadsNoFields trees (λ j. field_at fields p j) i a)
 
 -- ---- a whole input
 

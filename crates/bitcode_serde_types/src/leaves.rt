@@ -62,6 +62,10 @@ impl SerializeAs for u8 {
     fn write(&self, writer: &mut Writer, _left: usize, place: usize) -> Result<(), Error> {
         write_leaf(self, writer, place)
     }
+
+    fn as_bytes(values: &[u8]) -> Option<&[u8]> {
+        Some(values)
+    }
 }
 
 impl SerializeAs for u16 {
@@ -169,6 +173,30 @@ impl SerializeAs for i128 {
 
     fn write(&self, writer: &mut Writer, _left: usize, place: usize) -> Result<(), Error> {
         write_leaf(self, writer, place)
+    }
+}
+
+impl SerializeAs for usize {
+    ghost tree = { ⟦<u64 as SerializeAs>⟧.tree };
+
+    ghost datum = { natural };
+
+    ghost sound = { ⟦<u64 as SerializeAs>⟧.sound };
+
+    fn write(&self, writer: &mut Writer, left: usize, place: usize) -> Result<(), Error> {
+        (*self as u64).write(writer, left, place)
+    }
+}
+
+impl SerializeAs for isize {
+    ghost tree = { ⟦<i64 as SerializeAs>⟧.tree };
+
+    ghost datum = { number };
+
+    ghost sound = { ⟦<i64 as SerializeAs>⟧.sound };
+
+    fn write(&self, writer: &mut Writer, left: usize, place: usize) -> Result<(), Error> {
+        (*self as i64).write(writer, left, place)
     }
 }
 

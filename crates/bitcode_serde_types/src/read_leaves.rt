@@ -240,6 +240,40 @@ impl<'a> DeserializeAs<'a> for i128 {
     }
 }
 
+impl<'a> DeserializeAs<'a> for usize {
+    fn is_free() -> bool {
+        false
+    }
+
+    fn read(
+        alloc: Global,
+        reader: &mut Reader<'a>,
+        budget: &mut Budget,
+        left: usize,
+        place: usize,
+    ) -> Result<usize, Error> {
+        let n: u64 = u64::read(alloc, reader, budget, left, place)?;
+        Ok(n as usize)
+    }
+}
+
+impl<'a> DeserializeAs<'a> for isize {
+    fn is_free() -> bool {
+        false
+    }
+
+    fn read(
+        alloc: Global,
+        reader: &mut Reader<'a>,
+        budget: &mut Budget,
+        left: usize,
+        place: usize,
+    ) -> Result<isize, Error> {
+        let n: i64 = i64::read(alloc, reader, budget, left, place)?;
+        Ok(n as isize)
+    }
+}
+
 impl<'a> DeserializeAs<'a> for f32 {
     fn is_free() -> bool {
         false

@@ -2,12 +2,12 @@
 //! Tuples, and values without content.
 #![tactic(auto)]
 
-ghost use Rattle.bitcode_shapes.specs.Datum.{unit, tuple, datum_and, no_data};
-ghost use Rattle.bitcode_untyped.specs.ShapeTree.{unit_tree, tuple_tree, tree_and, no_trees};
+ghost use Rattle.bitcode_shapes.specs.Datum.{unit, tuple};
+ghost use Rattle.bitcode_untyped.specs.ShapeTree.{unit_tree, tuple_tree};
 
 use crate::deserialize_as::DeserializeAs;
-use crate::entering::read_field;
-use crate::fields::write_tuple;
+use crate::fields::{SerializeFields, write_tuple};
+use crate::read_fields::{DeserializeFields, read_tuple};
 use crate::serialize_as::SerializeAs;
 use bitcode_memory::error::Error;
 use bitcode_serde::budget::Budget;
@@ -44,12 +44,42 @@ impl<'a> DeserializeAs<'a> for () {
     }
 }
 
+impl<A: SerializeAs> SerializeAs for (A,) {
+    ghost tree = { λ left. tuple_tree (⟦<(A, ()) as SerializeFields>⟧.trees left) };
+
+    ghost datum = { λ t. tuple (⟦<(A, ()) as SerializeFields>⟧.content (t.0, tt)) };
+
+    ghost sound = { ⟦<(A, ()) as SerializeFields>⟧.sound };
+
+    fn write(&self, writer: &mut Writer, left: usize, place: usize) -> Result<(), Error> {
+        write_tuple(&(&self.0, ()), 1, writer, left, place)
+    }
+}
+
+impl<'a, A: DeserializeAs<'a>> DeserializeAs<'a> for (A,) {
+    fn is_free() -> bool {
+        <(A, ()) as DeserializeFields<'a>>::are_free()
+    }
+
+    fn read(
+        alloc: Global,
+        reader: &mut Reader<'a>,
+        budget: &mut Budget,
+        left: usize,
+        place: usize,
+    ) -> Result<(A,), Error> {
+        let fields: (A, ()) = read_tuple(alloc, reader, budget, left, place, 1)?;
+        let (a, _end) = fields;
+        Ok((a,))
+    }
+}
+
 impl<A: SerializeAs, B: SerializeAs> SerializeAs for (A, B) {
-    ghost tree = { λ left. tuple_tree (tree_and (A.tree left) (tree_and (B.tree left) no_trees)) };
+    ghost tree = { λ left. tuple_tree (⟦<(A, (B, ())) as SerializeFields>⟧.trees left) };
 
-    ghost datum = { λ t. tuple (datum_and (A.datum t.0) (datum_and (B.datum t.1) no_data)) };
+    ghost datum = { λ t. tuple (⟦<(A, (B, ())) as SerializeFields>⟧.content (t.0, (t.1, tt))) };
 
-    ghost sound = { λ left. (A.sound left, (B.sound left, tt)) };
+    ghost sound = { ⟦<(A, (B, ())) as SerializeFields>⟧.sound };
 
     fn write(&self, writer: &mut Writer, left: usize, place: usize) -> Result<(), Error> {
         write_tuple(&(&self.0, (&self.1, ())), 2, writer, left, place)
@@ -58,7 +88,7 @@ impl<A: SerializeAs, B: SerializeAs> SerializeAs for (A, B) {
 
 impl<'a, A: DeserializeAs<'a>, B: DeserializeAs<'a>> DeserializeAs<'a> for (A, B) {
     fn is_free() -> bool {
-        A::is_free() && B::is_free()
+        <(A, (B, ())) as DeserializeFields<'a>>::are_free()
     }
 
     fn read(
@@ -68,21 +98,19 @@ impl<'a, A: DeserializeAs<'a>, B: DeserializeAs<'a>> DeserializeAs<'a> for (A, B
         left: usize,
         place: usize,
     ) -> Result<(A, B), Error> {
-        budget.take(1);
-        let field0: A = read_field(alloc, reader, budget, left, place, 0, 2)?;
-        let field1: B = read_field(alloc, reader, budget, left, place, 1, 2)?;
-        Ok((field0, field1))
+        let fields: (A, (B, ())) = read_tuple(alloc, reader, budget, left, place, 2)?;
+        let (a, (b, _end)) = fields;
+        Ok((a, b))
     }
 }
 
 impl<A: SerializeAs, B: SerializeAs, C: SerializeAs> SerializeAs for (A, B, C) {
-    ghost tree = { λ left. tuple_tree
-        (tree_and (A.tree left) (tree_and (B.tree left) (tree_and (C.tree left) no_trees))) };
+    ghost tree = { λ left. tuple_tree (⟦<(A, (B, (C, ()))) as SerializeFields>⟧.trees left) };
 
     ghost datum = { λ t. tuple
-        (datum_and (A.datum t.0) (datum_and (B.datum t.1) (datum_and (C.datum t.2) no_data))) };
+        (⟦<(A, (B, (C, ()))) as SerializeFields>⟧.content (t.0, (t.1, (t.2, tt)))) };
 
-    ghost sound = { λ left. (A.sound left, (B.sound left, (C.sound left, tt))) };
+    ghost sound = { ⟦<(A, (B, (C, ()))) as SerializeFields>⟧.sound };
 
     fn write(&self, writer: &mut Writer, left: usize, place: usize) -> Result<(), Error> {
         write_tuple(&(&self.0, (&self.1, (&self.2, ()))), 3, writer, left, place)
@@ -92,7 +120,7 @@ impl<A: SerializeAs, B: SerializeAs, C: SerializeAs> SerializeAs for (A, B, C) {
 impl<'a, A: DeserializeAs<'a>, B: DeserializeAs<'a>, C: DeserializeAs<'a>> DeserializeAs<'a>
     for (A, B, C) {
     fn is_free() -> bool {
-        A::is_free() && B::is_free() && C::is_free()
+        <(A, (B, (C, ()))) as DeserializeFields<'a>>::are_free()
     }
 
     fn read(
@@ -102,24 +130,19 @@ impl<'a, A: DeserializeAs<'a>, B: DeserializeAs<'a>, C: DeserializeAs<'a>> Deser
         left: usize,
         place: usize,
     ) -> Result<(A, B, C), Error> {
-        budget.take(1);
-        let field0: A = read_field(alloc, reader, budget, left, place, 0, 3)?;
-        let field1: B = read_field(alloc, reader, budget, left, place, 1, 3)?;
-        let field2: C = read_field(alloc, reader, budget, left, place, 2, 3)?;
-        Ok((field0, field1, field2))
+        let fields: (A, (B, (C, ()))) = read_tuple(alloc, reader, budget, left, place, 3)?;
+        let (a, (b, (c, _end))) = fields;
+        Ok((a, b, c))
     }
 }
 
 impl<A: SerializeAs, B: SerializeAs, C: SerializeAs, D: SerializeAs> SerializeAs for (A, B, C, D) {
-    ghost tree = { λ left. tuple_tree
-        (tree_and (A.tree left)
-        (tree_and (B.tree left) (tree_and (C.tree left) (tree_and (D.tree left) no_trees)))) };
+    ghost tree = { λ left. tuple_tree (⟦<(A, (B, (C, (D, ())))) as SerializeFields>⟧.trees left) };
 
     ghost datum = { λ t. tuple
-        (datum_and (A.datum t.0)
-        (datum_and (B.datum t.1) (datum_and (C.datum t.2) (datum_and (D.datum t.3) no_data)))) };
+        (⟦<(A, (B, (C, (D, ())))) as SerializeFields>⟧.content (t.0, (t.1, (t.2, (t.3, tt))))) };
 
-    ghost sound = { λ left. (A.sound left, (B.sound left, (C.sound left, (D.sound left, tt)))) };
+    ghost sound = { ⟦<(A, (B, (C, (D, ())))) as SerializeFields>⟧.sound };
 
     fn write(&self, writer: &mut Writer, left: usize, place: usize) -> Result<(), Error> {
         write_tuple(
@@ -140,7 +163,7 @@ impl<
     D: DeserializeAs<'a>,
 > DeserializeAs<'a> for (A, B, C, D) {
     fn is_free() -> bool {
-        A::is_free() && B::is_free() && C::is_free() && D::is_free()
+        <(A, (B, (C, (D, ())))) as DeserializeFields<'a>>::are_free()
     }
 
     fn read(
@@ -150,29 +173,22 @@ impl<
         left: usize,
         place: usize,
     ) -> Result<(A, B, C, D), Error> {
-        budget.take(1);
-        let field0: A = read_field(alloc, reader, budget, left, place, 0, 4)?;
-        let field1: B = read_field(alloc, reader, budget, left, place, 1, 4)?;
-        let field2: C = read_field(alloc, reader, budget, left, place, 2, 4)?;
-        let field3: D = read_field(alloc, reader, budget, left, place, 3, 4)?;
-        Ok((field0, field1, field2, field3))
+        let fields: (A, (B, (C, (D, ())))) = read_tuple(alloc, reader, budget, left, place, 4)?;
+        let (a, (b, (c, (d, _end)))) = fields;
+        Ok((a, b, c, d))
     }
 }
 
 impl<A: SerializeAs, B: SerializeAs, C: SerializeAs, D: SerializeAs, E: SerializeAs> SerializeAs
     for (A, B, C, D, E) {
     ghost tree = { λ left. tuple_tree
-        (tree_and (A.tree left)
-        (tree_and (B.tree left)
-        (tree_and (C.tree left) (tree_and (D.tree left) (tree_and (E.tree left) no_trees))))) };
+        (⟦<(A, (B, (C, (D, (E, ()))))) as SerializeFields>⟧.trees left) };
 
     ghost datum = { λ t. tuple
-        (datum_and (A.datum t.0)
-        (datum_and (B.datum t.1)
-        (datum_and (C.datum t.2) (datum_and (D.datum t.3) (datum_and (E.datum t.4) no_data))))) };
+        (⟦<(A, (B, (C, (D, (E, ()))))) as SerializeFields>⟧.content
+        (t.0, (t.1, (t.2, (t.3, (t.4, tt)))))) };
 
-    ghost sound = { λ left.
-        (A.sound left, (B.sound left, (C.sound left, (D.sound left, (E.sound left, tt))))) };
+    ghost sound = { ⟦<(A, (B, (C, (D, (E, ()))))) as SerializeFields>⟧.sound };
 
     fn write(&self, writer: &mut Writer, left: usize, place: usize) -> Result<(), Error> {
         write_tuple(
@@ -194,7 +210,7 @@ impl<
     E: DeserializeAs<'a>,
 > DeserializeAs<'a> for (A, B, C, D, E) {
     fn is_free() -> bool {
-        A::is_free() && B::is_free() && C::is_free() && D::is_free() && E::is_free()
+        <(A, (B, (C, (D, (E, ()))))) as DeserializeFields<'a>>::are_free()
     }
 
     fn read(
@@ -204,13 +220,11 @@ impl<
         left: usize,
         place: usize,
     ) -> Result<(A, B, C, D, E), Error> {
-        budget.take(1);
-        let field0: A = read_field(alloc, reader, budget, left, place, 0, 5)?;
-        let field1: B = read_field(alloc, reader, budget, left, place, 1, 5)?;
-        let field2: C = read_field(alloc, reader, budget, left, place, 2, 5)?;
-        let field3: D = read_field(alloc, reader, budget, left, place, 3, 5)?;
-        let field4: E = read_field(alloc, reader, budget, left, place, 4, 5)?;
-        Ok((field0, field1, field2, field3, field4))
+        let fields: (A, (B, (C, (D, (E, ()))))) = read_tuple(
+            alloc, reader, budget, left, place, 5,
+        )?;
+        let (a, (b, (c, (d, (e, _end))))) = fields;
+        Ok((a, b, c, d, e))
     }
 }
 
@@ -223,21 +237,13 @@ impl<
     F: SerializeAs,
 > SerializeAs for (A, B, C, D, E, F) {
     ghost tree = { λ left. tuple_tree
-        (tree_and (A.tree left)
-        (tree_and (B.tree left)
-        (tree_and (C.tree left)
-        (tree_and (D.tree left) (tree_and (E.tree left) (tree_and (F.tree left) no_trees)))))) };
+        (⟦<(A, (B, (C, (D, (E, (F, ())))))) as SerializeFields>⟧.trees left) };
 
     ghost datum = { λ t. tuple
-        (datum_and (A.datum t.0)
-        (datum_and (B.datum t.1)
-        (datum_and (C.datum t.2)
-        (datum_and (D.datum t.3) (datum_and (E.datum t.4) (datum_and (F.datum t.5) no_data)))))) };
+        (⟦<(A, (B, (C, (D, (E, (F, ())))))) as SerializeFields>⟧.content
+        (t.0, (t.1, (t.2, (t.3, (t.4, (t.5, tt))))))) };
 
-    ghost sound = { λ left. (
-      A.sound left,
-      (B.sound left, (C.sound left, (D.sound left, (E.sound left, (F.sound left, tt))))),
-    ) };
+    ghost sound = { ⟦<(A, (B, (C, (D, (E, (F, ())))))) as SerializeFields>⟧.sound };
 
     fn write(&self, writer: &mut Writer, left: usize, place: usize) -> Result<(), Error> {
         write_tuple(
@@ -263,7 +269,7 @@ impl<
     F: DeserializeAs<'a>,
 > DeserializeAs<'a> for (A, B, C, D, E, F) {
     fn is_free() -> bool {
-        A::is_free() && B::is_free() && C::is_free() && D::is_free() && E::is_free() && F::is_free()
+        <(A, (B, (C, (D, (E, (F, ())))))) as DeserializeFields<'a>>::are_free()
     }
 
     fn read(
@@ -273,14 +279,11 @@ impl<
         left: usize,
         place: usize,
     ) -> Result<(A, B, C, D, E, F), Error> {
-        budget.take(1);
-        let field0: A = read_field(alloc, reader, budget, left, place, 0, 6)?;
-        let field1: B = read_field(alloc, reader, budget, left, place, 1, 6)?;
-        let field2: C = read_field(alloc, reader, budget, left, place, 2, 6)?;
-        let field3: D = read_field(alloc, reader, budget, left, place, 3, 6)?;
-        let field4: E = read_field(alloc, reader, budget, left, place, 4, 6)?;
-        let field5: F = read_field(alloc, reader, budget, left, place, 5, 6)?;
-        Ok((field0, field1, field2, field3, field4, field5))
+        let fields: (A, (B, (C, (D, (E, (F, ())))))) = read_tuple(
+            alloc, reader, budget, left, place, 6,
+        )?;
+        let (a, (b, (c, (d, (e, (f, _end)))))) = fields;
+        Ok((a, b, c, d, e, f))
     }
 }
 
@@ -294,26 +297,13 @@ impl<
     G: SerializeAs,
 > SerializeAs for (A, B, C, D, E, F, G) {
     ghost tree = { λ left. tuple_tree
-        (tree_and (A.tree left)
-        (tree_and (B.tree left)
-        (tree_and (C.tree left)
-        (tree_and (D.tree left)
-        (tree_and (E.tree left) (tree_and (F.tree left) (tree_and (G.tree left) no_trees))))))) };
+        (⟦<(A, (B, (C, (D, (E, (F, (G, ()))))))) as SerializeFields>⟧.trees left) };
 
     ghost datum = { λ t. tuple
-        (datum_and (A.datum t.0)
-        (datum_and (B.datum t.1)
-        (datum_and (C.datum t.2)
-        (datum_and (D.datum t.3)
-        (datum_and (E.datum t.4) (datum_and (F.datum t.5) (datum_and (G.datum t.6) no_data))))))) };
+        (⟦<(A, (B, (C, (D, (E, (F, (G, ()))))))) as SerializeFields>⟧.content
+        (t.0, (t.1, (t.2, (t.3, (t.4, (t.5, (t.6, tt)))))))) };
 
-    ghost sound = { λ left. (
-      A.sound left,
-      (
-        B.sound left,
-        (C.sound left, (D.sound left, (E.sound left, (F.sound left, (G.sound left, tt))))),
-      ),
-    ) };
+    ghost sound = { ⟦<(A, (B, (C, (D, (E, (F, (G, ()))))))) as SerializeFields>⟧.sound };
 
     fn write(&self, writer: &mut Writer, left: usize, place: usize) -> Result<(), Error> {
         write_tuple(
@@ -343,13 +333,7 @@ impl<
     G: DeserializeAs<'a>,
 > DeserializeAs<'a> for (A, B, C, D, E, F, G) {
     fn is_free() -> bool {
-        A::is_free()
-            && B::is_free()
-            && C::is_free()
-            && D::is_free()
-            && E::is_free()
-            && F::is_free()
-            && G::is_free()
+        <(A, (B, (C, (D, (E, (F, (G, ()))))))) as DeserializeFields<'a>>::are_free()
     }
 
     fn read(
@@ -359,15 +343,11 @@ impl<
         left: usize,
         place: usize,
     ) -> Result<(A, B, C, D, E, F, G), Error> {
-        budget.take(1);
-        let field0: A = read_field(alloc, reader, budget, left, place, 0, 7)?;
-        let field1: B = read_field(alloc, reader, budget, left, place, 1, 7)?;
-        let field2: C = read_field(alloc, reader, budget, left, place, 2, 7)?;
-        let field3: D = read_field(alloc, reader, budget, left, place, 3, 7)?;
-        let field4: E = read_field(alloc, reader, budget, left, place, 4, 7)?;
-        let field5: F = read_field(alloc, reader, budget, left, place, 5, 7)?;
-        let field6: G = read_field(alloc, reader, budget, left, place, 6, 7)?;
-        Ok((field0, field1, field2, field3, field4, field5, field6))
+        let fields: (A, (B, (C, (D, (E, (F, (G, ()))))))) = read_tuple(
+            alloc, reader, budget, left, place, 7,
+        )?;
+        let (a, (b, (c, (d, (e, (f, (g, _end))))))) = fields;
+        Ok((a, b, c, d, e, f, g))
     }
 }
 
@@ -382,32 +362,13 @@ impl<
     H: SerializeAs,
 > SerializeAs for (A, B, C, D, E, F, G, H) {
     ghost tree = { λ left. tuple_tree
-        (tree_and (A.tree left)
-        (tree_and (B.tree left)
-        (tree_and (C.tree left)
-        (tree_and (D.tree left)
-        (tree_and (E.tree left)
-        (tree_and (F.tree left) (tree_and (G.tree left) (tree_and (H.tree left) no_trees)))))))) };
+        (⟦<(A, (B, (C, (D, (E, (F, (G, (H, ())))))))) as SerializeFields>⟧.trees left) };
 
     ghost datum = { λ t. tuple
-        (datum_and (A.datum t.0)
-        (datum_and (B.datum t.1)
-        (datum_and (C.datum t.2)
-        (datum_and (D.datum t.3)
-        (datum_and (E.datum t.4)
-        (datum_and (F.datum t.5)
-        (datum_and (G.datum t.6) (datum_and (H.datum t.7) no_data)))))))) };
+        (⟦<(A, (B, (C, (D, (E, (F, (G, (H, ())))))))) as SerializeFields>⟧.content
+        (t.0, (t.1, (t.2, (t.3, (t.4, (t.5, (t.6, (t.7, tt))))))))) };
 
-    ghost sound = { λ left. (
-      A.sound left,
-      (
-        B.sound left,
-        (
-          C.sound left,
-          (D.sound left, (E.sound left, (F.sound left, (G.sound left, (H.sound left, tt))))),
-        ),
-      ),
-    ) };
+    ghost sound = { ⟦<(A, (B, (C, (D, (E, (F, (G, (H, ())))))))) as SerializeFields>⟧.sound };
 
     fn write(&self, writer: &mut Writer, left: usize, place: usize) -> Result<(), Error> {
         write_tuple(
@@ -441,14 +402,7 @@ impl<
     H: DeserializeAs<'a>,
 > DeserializeAs<'a> for (A, B, C, D, E, F, G, H) {
     fn is_free() -> bool {
-        A::is_free()
-            && B::is_free()
-            && C::is_free()
-            && D::is_free()
-            && E::is_free()
-            && F::is_free()
-            && G::is_free()
-            && H::is_free()
+        <(A, (B, (C, (D, (E, (F, (G, (H, ())))))))) as DeserializeFields<'a>>::are_free()
     }
 
     fn read(
@@ -458,17 +412,10 @@ impl<
         left: usize,
         place: usize,
     ) -> Result<(A, B, C, D, E, F, G, H), Error> {
-        budget.take(1);
-        let field0: A = read_field(alloc, reader, budget, left, place, 0, 8)?;
-        let field1: B = read_field(alloc, reader, budget, left, place, 1, 8)?;
-        let field2: C = read_field(alloc, reader, budget, left, place, 2, 8)?;
-        let field3: D = read_field(alloc, reader, budget, left, place, 3, 8)?;
-        let field4: E = read_field(alloc, reader, budget, left, place, 4, 8)?;
-        let field5: F = read_field(alloc, reader, budget, left, place, 5, 8)?;
-        let field6: G = read_field(alloc, reader, budget, left, place, 6, 8)?;
-        let field7: H = read_field(alloc, reader, budget, left, place, 7, 8)?;
-        Ok((
-            field0, field1, field2, field3, field4, field5, field6, field7,
-        ))
+        let fields: (A, (B, (C, (D, (E, (F, (G, (H, ())))))))) = read_tuple(
+            alloc, reader, budget, left, place, 8,
+        )?;
+        let (a, (b, (c, (d, (e, (f, (g, (h, _end)))))))) = fields;
+        Ok((a, b, c, d, e, f, g, h))
     }
 }

@@ -9,6 +9,10 @@ use bitcode_recursive_types::directory::{Directory, Entry};
 use bitcode_recursive_types::expr::Expr;
 use bitcode_recursive_types::node::Node;
 use std::alloc::Global;
+use std::num::{Saturating, Wrapping};
+use std::ops::{Range, RangeInclusive};
+use std::rc::Rc;
+use std::sync::Arc;
 
 // Writes a value, expects the bytes of a `Value` under a node, and writes what is read of them again.
 fn comes_back<T: SerializeAs + for<'a> DeserializeAs<'a>>(
@@ -91,6 +95,8 @@ fn bytes_of(alloc: Global, count: u8) -> Result<(ShapeNode, Value), Error> {
 #[test]
 fn tuples_come_back(rt: HostRuntime) -> Result<(), Error> {
     let alloc = rt.alloc();
+    let (node, value) = bytes_of(alloc, 1)?;
+    assert!(rt; comes_back(alloc, &(0u8,), node, &value)?);
     let (node, value) = bytes_of(alloc, 2)?;
     assert!(rt; comes_back(alloc, &(0u8, 1u8), node, &value)?);
     let (node, value) = bytes_of(alloc, 3)?;
@@ -105,6 +111,23 @@ fn tuples_come_back(rt: HostRuntime) -> Result<(), Error> {
     assert!(rt; comes_back(alloc, &(0u8, 1u8, 2u8, 3u8, 4u8, 5u8, 6u8), node, &value)?);
     let (node, value) = bytes_of(alloc, 8)?;
     assert!(rt; comes_back(alloc, &(0u8, 1u8, 2u8, 3u8, 4u8, 5u8, 6u8, 7u8), node, &value)?);
+    Ok(())
+}
+
+#[test]
+fn other_types_of_std_come_back(rt: HostRuntime) -> Result<(), Error> {
+    let alloc = rt.alloc();
+    assert!(rt; comes_back(alloc, &7usize, ShapeNode::U64, &Value::U64(7))?);
+    assert!(rt; comes_back(alloc, &usize::MAX, ShapeNode::U64, &Value::U64(u64::MAX))?);
+    assert!(rt; comes_back(alloc, &-7isize, ShapeNode::I64, &Value::I64(-7))?);
+    assert!(rt; comes_back(alloc, &Rc::new(alloc, 7u16)?, ShapeNode::U16, &Value::U16(7))?);
+    assert!(rt; comes_back(alloc, &Arc::new(alloc, true)?, ShapeNode::Bool, &Value::Bool(true))?);
+    assert!(rt; comes_back(alloc, &Wrapping(7u32), ShapeNode::U32, &Value::U32(7))?);
+    assert!(rt; comes_back(alloc, &Saturating(-7i8), ShapeNode::I8, &Value::I8(-7))?);
+    let (node, value) = bytes_of(alloc, 2)?;
+    assert!(rt; comes_back(alloc, &Range { start: 0u8, end: 1u8 }, node, &value)?);
+    let (node, value) = bytes_of(alloc, 2)?;
+    assert!(rt; comes_back(alloc, &RangeInclusive::new(0u8, 1u8), node, &value)?);
     Ok(())
 }
 

@@ -1,59 +1,8 @@
 -- Written by scripts/tables/serde_tuples.
--- One field after another.
-use Rattle.std.proofs.Common.{rules, refl}
-use Rattle.std.proofs.lemmas.Result.{err_from_is_err_and}
-use Rattle.bitcode_untyped.specs.ShapeTree.{tuple_tree, tree_and, no_trees}
-use Rattle.bitcode_serde.specs.ReadingValues.{IsRefusalAt}
-use Rattle.bitcode_serde.proofs.ColumnLemmas.{passed_on}
-use Rattle.bitcode_serde_types.proofs.FieldsRead.{no_fields_kept, place_there, field_kept, field_not_kept, tuple_kept}
+-- The fields are the tuple.
+use Rattle.std.proofs.Common.{refl}
+use Rattle.bitcode_serde_types.proofs.KeptLemmas.{kept_otherwise}
 use Rattle.bitcode_serde_types.proofs.tuples.Tuple2DeserializeAs.read.Goals as goal
 
-pub returns-in_err-field0-clause-refused : goal.returns-in_err-field0-clause-refused
-returns-in_err-field0-clause-refused g c =
-    let ss = (tree_and (g.A.SerializeAs.tree c.args.left) (tree_and (g.B.SerializeAs.tree c.args.left) no_trees)) in
-    let done0 = no_fields_kept ss c.args.place c.args.reader.now c.take.new.self c.requires.steady in
-    let y = err_from_is_err_and c.from_residual.result c.from_residual.ensures.1 in
-    passed_on (λ e. IsRefusalAt (tuple_tree ss) c.args.place c.args.reader.now e.reason) c.from_residual.result
-    c.in_err-field0.field-0.0 y.0 y.1 y.2
-    (field_not_kept ss c.args.place c.args.reader.now c.take.new.self done0 _ c.in_err-field0.ensures.refused)
-
-pub read_field-requires-2 : goal.read_field-requires-2
-read_field-requires-2 g c =
-    let ss = (tree_and (g.A.SerializeAs.tree c.args.left) (tree_and (g.B.SerializeAs.tree c.args.left) no_trees)) in
-    let done0 = no_fields_kept ss c.args.place c.args.reader.now c.take.new.self c.requires.steady in
-    let done1 = field_kept ss c.args.place c.args.reader.now c.take.new.self done0 g.A.SerializeAs.datum c.in_ok-field0.field0 _ _ c.in_ok-field0.ensures.continues
-    c.in_ok-field0.ensures.read in
-    let k = place_there ss c.args.place c.args.reader.now c.take.new.self done1 c.requires.place in
-    let s = done1.continues.steady in
-    search (rules, k, s)
-
-pub returns-in_err-field1-clause-refused : goal.returns-in_err-field1-clause-refused
-returns-in_err-field1-clause-refused g c =
-    let ss = (tree_and (g.A.SerializeAs.tree c.args.left) (tree_and (g.B.SerializeAs.tree c.args.left) no_trees)) in
-    let done0 = no_fields_kept ss c.args.place c.args.reader.now c.take.new.self c.requires.steady in
-    let done1 = field_kept ss c.args.place c.args.reader.now c.take.new.self done0 g.A.SerializeAs.datum c.in_ok-field0.field0 _ _ c.in_ok-field0.ensures.continues
-    c.in_ok-field0.ensures.read in
-    let y = err_from_is_err_and c.from_residual-in_err-field1.result c.from_residual-in_err-field1.ensures.1 in
-    passed_on (λ e. IsRefusalAt (tuple_tree ss) c.args.place c.args.reader.now e.reason) c.from_residual-in_err-field1.result
-    c.in_err-field1.field-0.0 y.0 y.1 y.2
-    (field_not_kept ss c.args.place c.args.reader.now c.take.new.self done1 _ c.in_err-field1.ensures.refused)
-
-pub returns-clause-continues : goal.returns-clause-continues
-returns-clause-continues g c =
-    let ss = (tree_and (g.A.SerializeAs.tree c.args.left) (tree_and (g.B.SerializeAs.tree c.args.left) no_trees)) in
-    let done0 = no_fields_kept ss c.args.place c.args.reader.now c.take.new.self c.requires.steady in
-    let done1 = field_kept ss c.args.place c.args.reader.now c.take.new.self done0 g.A.SerializeAs.datum c.in_ok-field0.field0 _ _ c.in_ok-field0.ensures.continues
-    c.in_ok-field0.ensures.read in
-    let done2 = field_kept ss c.args.place c.args.reader.now c.take.new.self done1 g.B.SerializeAs.datum c.in_ok-field1.field1 _ _ c.in_ok-field1.ensures.continues
-    c.in_ok-field1.ensures.read in
-    done2.continues
-
 pub returns-clause-read : goal.returns-clause-read
-returns-clause-read g c =
-    let ss = (tree_and (g.A.SerializeAs.tree c.args.left) (tree_and (g.B.SerializeAs.tree c.args.left) no_trees)) in
-    let done0 = no_fields_kept ss c.args.place c.args.reader.now c.take.new.self c.requires.steady in
-    let done1 = field_kept ss c.args.place c.args.reader.now c.take.new.self done0 g.A.SerializeAs.datum c.in_ok-field0.field0 _ _ c.in_ok-field0.ensures.continues
-    c.in_ok-field0.ensures.read in
-    let done2 = field_kept ss c.args.place c.args.reader.now c.take.new.self done1 g.B.SerializeAs.datum c.in_ok-field1.field1 _ _ c.in_ok-field1.ensures.continues
-    c.in_ok-field1.ensures.read in
-    tuple_kept ss c.args.place c.args.reader.now c.take.new.self done2 _ (c.in_ok-field0.field0, c.in_ok-field1.field1) c.args.budget.now (refl) c.take.ensures
+returns-clause-read g c = kept_otherwise _ _ _ _ _ _ _ _ refl c.in_ok-fields.ensures.read
