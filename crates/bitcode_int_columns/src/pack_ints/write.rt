@@ -59,11 +59,7 @@ fn push_rest<T: Int, N: SizedUInt>(entries: &[T], base: T::Unsigned, out: &mut V
 // The block is written to an array first. If each entry keeps all its bytes, the compiler then sees that the array is a
 // copy of the entries, and makes one copy of both.
 #[inline(always)]
-fn push_block<T: Int, N: SizedUInt>(
-    entries: &[T],
-    base: T::Unsigned,
-    mut out: Vec<u8>,
-) -> Vec<u8>
+fn push_block<T: Int, N: SizedUInt>(entries: &[T], base: T::Unsigned, mut out: Vec<u8>) -> Vec<u8>
     requires size { length entries.now * N.width ≡ 1024 }
     requires room { vec_len out + length entries.now * N.width ≤ vec_capacity out }
     ensures written { result.items ≡ out.items ++ raw_text N.width
@@ -88,6 +84,7 @@ fn push_blocks<T: Int, N: SizedUInt>(
     base: T::Unsigned,
     mut out: Vec<u8>,
 ) -> Vec<u8>
+    requires some { 0 < in_block }
     requires size { in_block * N.width ≡ 1024 }
     requires whole { length entries.now % in_block ≡ 0 }
     requires room { vec_len out + length entries.now * N.width ≤ vec_capacity out }
@@ -113,7 +110,8 @@ fn in_blocks(count: usize, in_block: usize) -> usize
     ensures within { result ≤ count }
     ensures whole { result % in_block ≡ 0 }
 {
-    count / in_block * in_block
+    let blocks = count / in_block;
+    blocks * in_block
 }
 
 // Appends how far each entry lies above a base, one by one, in room that is there.
