@@ -1,19 +1,19 @@
 -- Floats that are no NaNs, four at a time. A lane is marked where one of them is a NaN.
-use Rattle.std.proofs.Common.{◌≡◌, ℕ, zero, suc, ◌+◌, ◌-◌, ◌*◌, ◌%◌, ◌^◌, ◌≤◌, ◌<◌, Bool, true, false, cond, List, [], ◌∷◌, ◌++◌, length, map, take, drop, All, refl, sym, ap, ap₂, ◌∙◌, subst, arith}
+use Rattle.std.proofs.Common.{◌≡◌, ℕ, suc, ◌+◌, ◌-◌, ◌*◌, ◌%◌, ◌^◌, ◌≤◌, Bool, true, false, cond, List, [], ◌∷◌, ◌++◌, length, map, take, drop, All, refl, sym, ap, ap₂, ◌∙◌, subst, arith}
 use Rattle.std.specs.Prelude.{bit_or, not}
 use Rattle.std.specs.Simd.Lanes.{Each1, zip2, mask_l}
 use Rattle.std.specs.Float.{Float, NotNan}
 use Rattle.std.specs.Float.Ieee.{is_nan, ne}
-use lib.Dec.{T, leb, eqb}
+use lib.Dec.{leb, eqb}
 use lib.Lanes.{top}
 use mir.Syntax.{w64}
-use mir.Val.{bits, hbits}
+use mir.Val.{bits}
 use Rattle.std.proofs.lemmas.Bool.{eqb-true, leb-false, leb-true, true≢false}
 use Rattle.std.proofs.lemmas.Nat.{le_or_l, le_or_r}
 use Rattle.std.proofs.Math.Seq.{take-add}
 use Rattle.std.proofs.lemmas.List.{length-map, drop-drop}
 use Rattle.std.proofs.lemmas.List.Elements.{All-nil, All-cons, All-append}
-use Rattle.std.proofs.lemmas.Simd.{mask_l-mod, mask_l-lt}
+use Rattle.std.proofs.lemmas.Simd.{mask_l-mod}
 use Rattle.bitcode_float_columns.proofs.LaneLemmas.{asked_of_all, marks_of_floats, is_number}
 
 -- no lane of two is marked where none of their `bit_or` is

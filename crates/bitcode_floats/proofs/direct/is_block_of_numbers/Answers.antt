@@ -1,5 +1,5 @@
 -- Sixteen floats more.
-use Rattle.std.proofs.Common.{◌≡◌, ◌*◌, All, take, drop, sym, ap₂, ◌∙◌, ◌++◌, subst, arith}
+use Rattle.std.proofs.Common.{◌≡◌, ◌*◌, All, take, subst, arith}
 use Rattle.std.specs.Float.{NotNan}
 use Rattle.std.proofs.lemmas.List.{take_all}
 use Rattle.bitcode_floats.proofs.NumberLemmas.{sixteen_more}

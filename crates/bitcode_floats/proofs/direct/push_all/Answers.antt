@@ -1,5 +1,5 @@
 -- A block more, and then the floats behind the last one.
-use Rattle.std.proofs.Common.{◌≡◌, ◌+◌, ◌*◌, ◌/◌, ◌++◌, List, length, map, take, drop, refl, ap, ◌∙◌, arith}
+use Rattle.std.proofs.Common.{◌≡◌, ◌*◌, ◌/◌, List, length, map, drop, refl, ap, ◌∙◌, arith}
 use Rattle.std.specs.Prelude.{ℕ, to_bits}
 use Rattle.std.specs.Float.{Float, binary64}
 use Rattle.bitcode_memory.specs.LittleEndian.{raw_text}

@@ -1,8 +1,7 @@
 -- The bytes of the bits of one float more.
-use Rattle.std.proofs.Common.{slice_index_or, refl, sym, ap, ◌∙◌, subst, arith, length, map, ◌++◌}
+use Rattle.std.proofs.Common.{slice_index_or, refl, ◌∙◌, arith}
 use Rattle.std.specs.Prelude.{to_bits}
 use Rattle.std.specs.Float.{Float, binary64, nan}
-use Rattle.bitcode_memory.specs.LittleEndian.{raw_text}
 use Rattle.bitcode_int_columns.proofs.NarrowLemmas.{raw_none, raw_more}
 use Rattle.bitcode_floats.proofs.direct.push_numbers.Goals as goal
 

@@ -1,4 +1,4 @@
-use Rattle.std.proofs.Common.{◌≡◌, ◌+◌, ◌*◌, ◌≤◌, ◌%◌, ◌^◌, ◌++◌, take, drop, map, All, vec_len, vec_capacity}
+use Rattle.std.proofs.Common.{◌≡◌, ◌+◌, ◌*◌, ◌%◌, ◌^◌, ◌++◌, take, drop, map, All, vec_len, vec_capacity}
 use Rattle.bitcode_memory.specs.LittleEndian.{raw_text}
 use Rattle.bitcode_memory.specs.Ints.{IsNumber}
 use Rattle.bitcode_int_columns.specs.Narrowing.{above}
