@@ -120,14 +120,14 @@ block_at size (suc k) (suc i) xs d h =
     block_at size k i (drop size xs) d (omega arith) ∙ ap (take size) (drop-drop (i * size) size xs ∙ ap (λ n. drop n xs) (sym e))
 
 -- the texts of one block more
-pub block_more : (xs : List Float) (count i : ℕ) (d : List Float) (blocks : List (List Float)) (start so_far next : List ℕ) → blocks ≡ first_chunks 128 count xs
-    → i < count → so_far ≡ start ++ text (take (128 * i) xs) → next ≡ so_far ++ text (get_or blocks i d) → next ≡ start ++ text (take (128 * (i + 1)) xs)
+pub block_more : (xs : List Float) (count i : ℕ) (d : List Float) (blocks : List (List Float)) (start so_far next : List ℕ) → blocks ≡ first_chunks 64 count xs
+    → i < count → so_far ≡ start ++ text (take (64 * i) xs) → next ≡ so_far ++ text (get_or blocks i d) → next ≡ start ++ text (take (64 * (i + 1)) xs)
 block_more xs count i d blocks start so_far next are here before after =
-    let at : ℕ = 128 * i in
-    let block : get_or blocks i d ≡ take 128 (drop at xs) =
-    ap (λ ys. get_or ys i d) are ∙ block_at 128 count i xs d here ∙ ap (λ n. take 128 (drop n xs)) (omega arith) in
-    let more : take (128 * (i + 1)) xs ≡ take at xs ++ get_or blocks i d =
-    ap (λ n. take n xs) (omega arith) ∙ take-add at 128 xs ∙ ap (λ ys. take at xs ++ ys) (sym block) in
+    let at : ℕ = 64 * i in
+    let block : get_or blocks i d ≡ take 64 (drop at xs) =
+    ap (λ ys. get_or ys i d) are ∙ block_at 64 count i xs d here ∙ ap (λ n. take 64 (drop n xs)) (omega arith) in
+    let more : take (64 * (i + 1)) xs ≡ take at xs ++ get_or blocks i d =
+    ap (λ n. take n xs) (omega arith) ∙ take-add at 64 xs ∙ ap (λ ys. take at xs ++ ys) (sym block) in
     after ∙ ap (λ front. front ++ text (get_or blocks i d)) before
     ∙ append_assoc start (text (take at xs)) (text (get_or blocks i d))
     ∙ ap (λ behind. start ++ behind) (sym (bits_join (take at xs) (get_or blocks i d)) ∙ ap text (sym more))

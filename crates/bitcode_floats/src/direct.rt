@@ -19,7 +19,7 @@ use std::simd::prelude::*;
 const FAR: u64 = 0x1_0000_0000;
 
 // So many floats are a block.
-const BLOCK: usize = 128;
+const BLOCK: usize = 64;
 
 // The bits of each float have eight bytes. It does nothing; its contract is for proofs.
 fn known_bits(floats: &[f64])
@@ -133,10 +133,10 @@ fn is_block_of_numbers(floats: &[f64; BLOCK]) -> bool
 // block to the list.
 fn push_numbers(floats: &[f64; BLOCK], mut out: Vec<u8>) -> Vec<u8>
     requires numbers { All NotNan floats.now }
-    requires room { vec_len out + 1024 ≤ vec_capacity out }
+    requires room { vec_len out + 512 ≤ vec_capacity out }
     ensures written { result.items ≡ out.items ++ raw_text 8
         (map (λ x. to_bits binary64 x) floats.now) }
-    ensures len { vec_len result ≡ vec_len out + 1024 }
+    ensures len { vec_len result ≡ vec_len out + 512 }
     ensures capacity { vec_capacity result ≡ vec_capacity out }
 {
     let copy = *floats;
@@ -148,10 +148,10 @@ fn push_numbers(floats: &[f64; BLOCK], mut out: Vec<u8>) -> Vec<u8>
 
 // Appends the bytes of the bits of a block of floats, with or without a NaN. The caller must have reserved the room.
 fn push_block(floats: &[f64; BLOCK], out: Vec<u8>) -> Vec<u8>
-    requires { vec_len out + 1024 ≤ vec_capacity out }
+    requires { vec_len out + 512 ≤ vec_capacity out }
     ensures written { result.items ≡ out.items ++ raw_text 8
         (map (λ x. to_bits binary64 x) floats.now) }
-    ensures len { vec_len result ≡ vec_len out + 1024 }
+    ensures len { vec_len result ≡ vec_len out + 512 }
     ensures capacity { vec_capacity result ≡ vec_capacity out }
 {
     if is_block_of_numbers(floats) {

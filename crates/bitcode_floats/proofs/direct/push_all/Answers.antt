@@ -19,7 +19,7 @@ loop-block-preserved c =
     let was = c.loop-block.invariant in
     record {
       written =
-          block_more c.args.floats.now (length c.args.floats.now / 128) c.loop-block.block-index _ c.as_chunks.result.0.now c.args.out.items c.loop-block.out.items
+          block_more c.args.floats.now (length c.args.floats.now / 64) c.loop-block.block-index _ c.as_chunks.result.0.now c.args.out.items c.loop-block.out.items
           c.push_block-out.result.items c.as_chunks.ensures.front (omega (arith, c.loop-block-test.true, c.as_chunks.ensures.front_len)) was.written c.push_block-out.ensures.written;
       len = omega (arith, c.push_block-out.ensures.len, was.len);
       capacity = c.push_block-out.ensures.capacity ∙ was.capacity;
@@ -27,8 +27,8 @@ loop-block-preserved c =
 
 pub returns : goal.returns
 returns c =
-    let count : ℕ = length c.args.floats.now / 128 in
+    let count : ℕ = length c.args.floats.now / 64 in
     let at_end : c.loop-block.block-index ≡ count = omega (arith, c.loop-block-test.false, c.loop-block.auto.block-index-end, c.as_chunks.ensures.front_len) in
-    let behind : c.as_chunks.result.1.now ≡ drop (128 * count) c.args.floats.now = c.as_chunks.ensures.back ∙ ap (λ n. drop n c.args.floats.now) (omega arith) in
-    then_others text bits_join c.args.floats.now c.args.out.items (128 * count) c.as_chunks.result.1.now c.loop-block.out.items c.push_fours.result.items
+    let behind : c.as_chunks.result.1.now ≡ drop (64 * count) c.args.floats.now = c.as_chunks.ensures.back ∙ ap (λ n. drop n c.args.floats.now) (omega arith) in
+    then_others text bits_join c.args.floats.now c.args.out.items (64 * count) c.as_chunks.result.1.now c.loop-block.out.items c.push_fours.result.items
     behind (rw at_end at c.loop-block.invariant.written) c.push_fours.ensures
