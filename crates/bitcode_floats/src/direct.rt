@@ -1,5 +1,6 @@
 //! Writing the column of a slice of 8-byte floats without a copy of it, where its numbers keep their whole width.
-ghost use Rattle.std.specs.Prelude.{◌≡◌, ◌+◌, ◌*◌, ◌^◌, ◌<◌, ◌≤◌, ◌∷◌, ◌++◌, pos, length, map, take, drop, All, to_bits, vec_len};
+ghost use Rattle.std.specs.Prelude.{◌≡◌, ◌+◌, ◌*◌, ◌^◌, ◌<◌, ◌≤◌, ◌∷◌, ◌++◌, pos, length, map, take, drop, All};
+ghost use Rattle.std.specs.Prelude.{to_bits, vec_len};
 ghost use Rattle.std.specs.Prelude.{vec_capacity, IsTrue, OnOk, IfErr, OnErr};
 ghost use Rattle.std.specs.Float.{binary64, NotNan};
 ghost use Rattle.bitcode_memory.specs.LittleEndian.{raw_text};
