@@ -23,6 +23,7 @@ WORDS = {
     "SECURITY.md": 350,
     "docs/ARCHITECTURE.md": 1900,
     "docs/CODERS.md": 2500,
+    "docs/COMMAND.md": 600,
     "docs/DECISIONS.md": 3900,
     "docs/DIFFERENCES.md": 1530,
     "docs/EXAMPLES.md": 1200,
@@ -41,8 +42,8 @@ HISTORY = "docs/HISTORY.md"
 COUNTED = "docs/TESTING.md"
 BEGIN, END = "<!-- scripts/pages.py --write -->\n", "<!-- end -->\n"
 BY_SCRIPT = re.compile(r"^<!-- scripts/.*?^<!-- end -->$", re.M | re.S)
-# What else is in docs/, which scripts/speed/picture.py reads and writes.
-NO_PAGES = ["docs/speed.svg", "docs/speed.tsv"]
+# What else is in docs/, which scripts/speed/picture.py reads and writes, and a picture that the command writes.
+NO_PAGES = ["docs/speed.svg", "docs/speed.tsv", "docs/columns.svg"]
 DATE = re.compile(r"\b20\d\d-\d\d-\d\d\b")
 BY_HAND = re.compile(r"\b\d[\d,]* (?:tests|edits|must-fail edits|functions|crates)\b")
 TEST = r"^#\[test\]"

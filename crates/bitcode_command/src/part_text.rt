@@ -1,0 +1,80 @@
+//! What is said of a column.
+use bitcode_schema::columns::part::{ColumnPart, Packing, PartKind};
+use bitcode_schema::schema::IntKind;
+use std::alloc::{AllocError, Global};
+
+/// The path of a column, which is a dot for the whole value.
+pub fn path_text(part: &ColumnPart) -> &str {
+    if part.path.is_empty() {
+        "."
+    } else {
+        part.path.as_str()
+    }
+}
+
+/// What the entries of a column are.
+pub fn kind_text(alloc: Global, kind: PartKind) -> Result<String, AllocError> {
+    match kind {
+        PartKind::Bools => String::from_str(alloc, "bool"),
+        PartKind::Chars => String::from_str(alloc, "char"),
+        PartKind::Ints(int) => String::from_str(alloc, int_text(int)),
+        PartKind::F32 => String::from_str(alloc, "f32"),
+        PartKind::F64 => String::from_str(alloc, "f64"),
+        PartKind::Lengths => String::from_str(alloc, "length"),
+        PartKind::Variants(count) => format!(in alloc; "1 of {count}"),
+        PartKind::TextBytes => String::from_str(alloc, "text"),
+    }
+}
+
+fn int_text(kind: IntKind) -> &'static str {
+    match kind {
+        IntKind::U8 => "u8",
+        IntKind::U16 => "u16",
+        IntKind::U32 => "u32",
+        IntKind::U64 => "u64",
+        IntKind::U128 => "u128",
+        IntKind::I8 => "i8",
+        IntKind::I16 => "i16",
+        IntKind::I32 => "i32",
+        IntKind::I64 => "i64",
+        IntKind::I128 => "i128",
+    }
+}
+
+/// How the entries of a column are stored.
+pub fn packing_text(alloc: Global, part: &ColumnPart) -> Result<String, AllocError> {
+    match part.packing {
+        Packing::Raw => String::from_str(alloc, "raw"),
+        Packing::Within(within) => format!(in alloc; "within {within}"),
+        Packing::Shifted { by, within } => shifted_text(alloc, part.kind, by, within),
+        Packing::LargeLengths(count) => format!(in alloc; "{count} of 255 or more"),
+    }
+}
+
+// The least number that is negative in this integer type, as its bytes say it without a sign.
+fn first_negative(kind: PartKind) -> Option<u128> {
+    match kind {
+        PartKind::Ints(IntKind::I8) => Some(1 << 7),
+        PartKind::Ints(IntKind::I16) => Some(1 << 15),
+        PartKind::Ints(IntKind::I32) => Some(1 << 31),
+        PartKind::Ints(IntKind::I64) => Some(1 << 63),
+        PartKind::Ints(IntKind::I128) => Some(1 << 127),
+        _ => None,
+    }
+}
+
+// The least entry and how many numbers from it on.
+fn shifted_text(
+    alloc: Global,
+    kind: PartKind,
+    by: u128,
+    within: u128,
+) -> Result<String, AllocError> {
+    match first_negative(kind) {
+        Some(first) if by >= first => {
+            let below = by.wrapping_neg() & first.wrapping_mul(2).wrapping_sub(1);
+            format!(in alloc; "-{below} + within {within}")
+        }
+        _ => format!(in alloc; "{by} + within {within}"),
+    }
+}
