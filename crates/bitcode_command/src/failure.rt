@@ -1,7 +1,7 @@
 //! Why the command failed, and with which status it then ends.
+use crate::column::ColumnFault;
 use crate::fault::Fault;
 use bitcode_memory::error::{Error, Reason};
-use bitcode_schema::columns::part::ColumnFault;
 use bitcode_sealed::error::OpenError;
 use std::alloc::{AllocError, AllocFailed, Global};
 use std::{fmt, io};
@@ -140,16 +140,6 @@ impl From<Error> for Failure {
             Failure::OutOfMemory
         } else {
             Failure::Bytes(error)
-        }
-    }
-}
-
-impl From<ColumnFault> for Failure {
-    fn from(fault: ColumnFault) -> Failure {
-        if fault.reason == Reason::OutOfMemory {
-            Failure::OutOfMemory
-        } else {
-            Failure::Column(fault)
         }
     }
 }

@@ -1,14 +1,16 @@
 //! Both formats, each by its schema.
+use crate::column::{Column, ColumnFault};
+use crate::columns::columns;
 use crate::failure::Failure;
 use crate::fault::Fault;
+use crate::first_values::decode_first;
 use crate::formats::{first_format, second_format};
 use crate::node::Types;
 use bitcode_memory::error::{Error, Reason};
-use bitcode_schema::columns::columns;
-use bitcode_schema::columns::part::ColumnPart;
+use bitcode_schema::check::{check_value, check_value_strict};
 use bitcode_schema::encode::encode_value;
 use bitcode_schema::schema::Schema;
-use bitcode_serde::deserialize::deserialize_within;
+use bitcode_serde::deserialize::{deserialize_strict, deserialize_within};
 use bitcode_serde::serialize::serialize;
 use bitcode_untyped::shape::Shape;
 use bitcode_untyped::value::Value;
@@ -36,19 +38,16 @@ impl Format {
         matches!(self, Format::Second(_))
     }
 
-    /// The value of the bytes, of at most so many nodes. Bytes of the first format are not decoded.
+    /// The value of the bytes, of at most so many nodes.
     pub fn decode(&self, alloc: Global, bytes: &[u8], limit: usize) -> Result<Value, Failure> {
         match self {
-            Format::First(_) => Err(Failure::of_words(
-                alloc,
-                "bytes of the first format are not decoded: give `--second`",
-            )),
+            Format::First(schema) => decode_first(alloc, schema, bytes, limit),
             Format::Second(shape) => Ok(deserialize_within(alloc, shape, bytes, limit)?),
         }
     }
 
-    /// Accepts the bytes of a value. The failure of the first format names the column at fault. With `strict` it accepts
-    /// only what is written for a value of the second format.
+    /// Accepts the bytes of a value, which has at most so many nodes in the second format. With `strict` it accepts only
+    /// the bytes that are written for a value. The failure of the first format names the column at fault.
     pub fn check(
         &self,
         alloc: Global,
@@ -56,27 +55,16 @@ impl Format {
         limit: usize,
         strict: bool,
     ) -> Result<(), Failure> {
-        if let Format::First(schema) = self {
-            let _ = columns(alloc, schema, bytes)?;
-            if strict {
-                let what = "`--strict` is only for the second format: give `--second`";
-                return Err(Failure::of_words(alloc, what));
-            }
-            return Ok(());
+        match self {
+            Format::First(schema) => check_first(alloc, schema, bytes, strict),
+            Format::Second(shape) => check_second(alloc, shape, bytes, limit, strict),
         }
-        let value = self.decode(alloc, bytes, limit)?;
-        if strict && self.encode(alloc, &value)?.as_slice() != bytes {
-            return Err(Failure::Bytes(Error {
-                reason: Reason::NotTheWrittenText,
-            }));
-        }
-        Ok(())
     }
 
     /// The columns of bytes of the first format.
-    pub fn columns(&self, alloc: Global, bytes: &[u8]) -> Result<Vec<ColumnPart>, Failure> {
+    pub fn columns(&self, alloc: Global, bytes: &[u8]) -> Result<Vec<Column>, Failure> {
         match self {
-            Format::First(schema) => Ok(columns(alloc, schema, bytes)?),
+            Format::First(schema) => Ok(columns(alloc, schema, bytes, false)?.columns),
             Format::Second(_) => Ok(Vec::new(alloc)),
         }
     }
@@ -88,4 +76,42 @@ impl Format {
             Format::Second(shape) => Ok(serialize(alloc, shape, value)?),
         }
     }
+}
+
+fn check_first(alloc: Global, schema: &Schema, bytes: &[u8], strict: bool) -> Result<(), Failure> {
+    let checked = if strict {
+        check_value_strict(alloc, schema, bytes)
+    } else {
+        check_value(alloc, schema, bytes)
+    };
+    match checked {
+        Ok(()) => Ok(()),
+        Err(error) => Err(fault_of(alloc, schema, bytes, error)),
+    }
+}
+
+// The failure of bytes that were refused, with the column at fault.
+fn fault_of(alloc: Global, schema: &Schema, bytes: &[u8], error: Error) -> Failure {
+    let strict = error.reason == Reason::NotTheWrittenText;
+    match columns(alloc, schema, bytes, strict) {
+        Err(Failure::Column(fault)) => Failure::Column(ColumnFault {
+            reason: error.reason,
+            ..fault
+        }),
+        _ => Failure::from(error),
+    }
+}
+
+fn check_second(
+    alloc: Global,
+    shape: &Shape,
+    bytes: &[u8],
+    limit: usize,
+    strict: bool,
+) -> Result<(), Failure> {
+    let _within = deserialize_within(alloc, shape, bytes, limit)?;
+    if strict {
+        let _written = deserialize_strict(alloc, shape, bytes)?;
+    }
+    Ok(())
 }

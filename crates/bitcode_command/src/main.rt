@@ -2,9 +2,13 @@
 #![tactic(auto)]
 
 mod calls;
+mod column;
+mod column_text;
+mod columns;
 mod failure;
 mod fault;
 mod files;
+mod first_values;
 mod format;
 mod formats;
 mod from_json;
@@ -16,10 +20,12 @@ mod leaf;
 mod maps;
 mod node;
 mod options;
-mod part_text;
+mod packing;
 mod picture;
+mod place;
 mod schema_file;
 mod sealed_parts;
+mod survey;
 mod table;
 mod to_json;
 mod words;

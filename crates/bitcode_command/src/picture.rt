@@ -1,7 +1,7 @@
 //! The columns of an input as a picture.
-use crate::part_text::{kind_text, packing_text, path_text};
+use crate::column::Column;
+use crate::column_text::{kind_text, packing_text, path_text};
 use crate::table::share_of;
-use bitcode_schema::columns::part::ColumnPart;
 use std::alloc::{AllocError, Global};
 
 // The height of a row, and how long the bar of all bytes is.
@@ -15,10 +15,10 @@ const STYLE: &str =
 
 /// An SVG picture of an input's columns: a bar for each, as long as its share of the bytes. Its colours suit a light and
 /// a dark page.
-pub fn picture(alloc: Global, parts: &[ColumnPart]) -> Result<String, AllocError> {
+pub fn picture(alloc: Global, parts: &[Column]) -> Result<String, AllocError> {
     let mut all = 0usize;
     for part in parts {
-        all = all.saturating_add(part.size);
+        all = all.saturating_add(part.extent.size);
     }
     let height = parts.len().saturating_mul(ROW).saturating_add(ROW);
     let mut text = format!(in alloc;
@@ -39,14 +39,14 @@ pub fn picture(alloc: Global, parts: &[ColumnPart]) -> Result<String, AllocError
 fn push_row(
     alloc: Global,
     text: &mut String,
-    part: &ColumnPart,
+    part: &Column,
     base: usize,
     all: usize,
 ) -> Result<(), AllocError> {
     let above = base.saturating_sub(12);
-    let width = share_of(part.size, all, WIDEST).max(1);
+    let width = share_of(part.extent.size, all, WIDEST).max(1);
     let beside = width.saturating_add(250);
-    let bytes = part.size;
+    let bytes = part.extent.size;
     let kind = kind_text(alloc, part.kind)?;
     let packing = packing_text(alloc, part)?;
     text.push_str(&format!(in alloc; "<text x=\"230\" y=\"{base}\" text-anchor=\"end\">")?)?;

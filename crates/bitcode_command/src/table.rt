@@ -1,6 +1,6 @@
 //! The columns of an input as a table, and as JSON.
-use crate::part_text::{kind_text, packing_text, path_text};
-use bitcode_schema::columns::part::ColumnPart;
+use crate::column::Column;
+use crate::column_text::{kind_text, packing_text, path_text};
 use json::Writer;
 use std::alloc::{AllocError, Global};
 
@@ -15,10 +15,10 @@ const HEADS: [&str; 7] = [
 const NUMBERS: [bool; 7] = [false, false, true, true, true, false, false];
 
 /// The table of an input's columns: a line for each, with a bar for its share of the bytes.
-pub fn table(alloc: Global, parts: &[ColumnPart]) -> Result<String, AllocError> {
+pub fn table(alloc: Global, parts: &[Column]) -> Result<String, AllocError> {
     let mut all = 0usize;
     for part in parts {
-        all = all.saturating_add(part.size);
+        all = all.saturating_add(part.extent.size);
     }
     let mut rows = Vec::new(alloc);
     rows.push(head(alloc)?)?;
@@ -41,10 +41,10 @@ fn head(alloc: Global) -> Result<Vec<String>, AllocError> {
     Ok(cells)
 }
 
-fn row(alloc: Global, part: &ColumnPart, all: usize) -> Result<Vec<String>, AllocError> {
+fn row(alloc: Global, part: &Column, all: usize) -> Result<Vec<String>, AllocError> {
     let entries = part.entries;
     let offset = part.offset;
-    let size = part.size;
+    let size = part.extent.size;
     let share = share_of(size, all, 100);
     let bar = bar(alloc, share_of(size, all, CELLS))?;
     let mut cells = Vec::with_capacity(alloc, HEADS.len())?;
@@ -78,7 +78,7 @@ fn bar(alloc: Global, cells: usize) -> Result<String, AllocError> {
 }
 
 /// The same as a list of JSON.
-pub fn table_json(alloc: Global, parts: &[ColumnPart]) -> Result<Vec<u8>, AllocError> {
+pub fn table_json(alloc: Global, parts: &[Column]) -> Result<Vec<u8>, AllocError> {
     let mut out = Writer::new(Vec::new(alloc));
     out.begin_array()?;
     for part in parts {
@@ -92,7 +92,7 @@ pub fn table_json(alloc: Global, parts: &[ColumnPart]) -> Result<Vec<u8>, AllocE
         out.key("offset")?;
         out.u64(part.offset as u64)?;
         out.key("bytes")?;
-        out.u64(part.size as u64)?;
+        out.u64(part.extent.size as u64)?;
         out.key("packing")?;
         out.string(&packing_text(alloc, part)?)?;
         out.end_object()?;

@@ -1,10 +1,10 @@
 //! What is said of a column.
-use bitcode_schema::columns::part::{ColumnPart, Packing, PartKind};
+use crate::column::{Column, ColumnKind, Packing};
 use bitcode_schema::schema::IntKind;
 use std::alloc::{AllocError, Global};
 
 /// The path of a column, which is a dot for the whole value.
-pub fn path_text(part: &ColumnPart) -> &str {
+pub fn path_text(part: &Column) -> &str {
     if part.path.is_empty() {
         "."
     } else {
@@ -13,16 +13,16 @@ pub fn path_text(part: &ColumnPart) -> &str {
 }
 
 /// What the entries of a column are.
-pub fn kind_text(alloc: Global, kind: PartKind) -> Result<String, AllocError> {
+pub fn kind_text(alloc: Global, kind: ColumnKind) -> Result<String, AllocError> {
     match kind {
-        PartKind::Bools => String::from_str(alloc, "bool"),
-        PartKind::Chars => String::from_str(alloc, "char"),
-        PartKind::Ints(int) => String::from_str(alloc, int_text(int)),
-        PartKind::F32 => String::from_str(alloc, "f32"),
-        PartKind::F64 => String::from_str(alloc, "f64"),
-        PartKind::Lengths => String::from_str(alloc, "length"),
-        PartKind::Variants(count) => format!(in alloc; "1 of {count}"),
-        PartKind::TextBytes => String::from_str(alloc, "text"),
+        ColumnKind::Bools => String::from_str(alloc, "bool"),
+        ColumnKind::Chars => String::from_str(alloc, "char"),
+        ColumnKind::Ints(int) => String::from_str(alloc, int_text(int)),
+        ColumnKind::F32 => String::from_str(alloc, "f32"),
+        ColumnKind::F64 => String::from_str(alloc, "f64"),
+        ColumnKind::Lengths => String::from_str(alloc, "length"),
+        ColumnKind::Variants(count) => format!(in alloc; "1 of {count}"),
+        ColumnKind::TextBytes => String::from_str(alloc, "text"),
     }
 }
 
@@ -42,23 +42,23 @@ fn int_text(kind: IntKind) -> &'static str {
 }
 
 /// How the entries of a column are stored.
-pub fn packing_text(alloc: Global, part: &ColumnPart) -> Result<String, AllocError> {
-    match part.packing {
+pub fn packing_text(alloc: Global, part: &Column) -> Result<String, AllocError> {
+    match part.extent.packing {
         Packing::Raw => String::from_str(alloc, "raw"),
         Packing::Within(within) => format!(in alloc; "within {within}"),
         Packing::Shifted { by, within } => shifted_text(alloc, part.kind, by, within),
-        Packing::LargeLengths(count) => format!(in alloc; "{count} of 255 or more"),
+        Packing::LargeLengths => String::from_str(alloc, "some 255 or more"),
     }
 }
 
 // The least number that is negative in this integer type, as its bytes say it without a sign.
-fn first_negative(kind: PartKind) -> Option<u128> {
+fn first_negative(kind: ColumnKind) -> Option<u128> {
     match kind {
-        PartKind::Ints(IntKind::I8) => Some(1 << 7),
-        PartKind::Ints(IntKind::I16) => Some(1 << 15),
-        PartKind::Ints(IntKind::I32) => Some(1 << 31),
-        PartKind::Ints(IntKind::I64) => Some(1 << 63),
-        PartKind::Ints(IntKind::I128) => Some(1 << 127),
+        ColumnKind::Ints(IntKind::I8) => Some(1 << 7),
+        ColumnKind::Ints(IntKind::I16) => Some(1 << 15),
+        ColumnKind::Ints(IntKind::I32) => Some(1 << 31),
+        ColumnKind::Ints(IntKind::I64) => Some(1 << 63),
+        ColumnKind::Ints(IntKind::I128) => Some(1 << 127),
         _ => None,
     }
 }
@@ -66,7 +66,7 @@ fn first_negative(kind: PartKind) -> Option<u128> {
 // The least entry and how many numbers from it on.
 fn shifted_text(
     alloc: Global,
-    kind: PartKind,
+    kind: ColumnKind,
     by: u128,
     within: u128,
 ) -> Result<String, AllocError> {
