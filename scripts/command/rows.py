@@ -3,10 +3,12 @@
 
     rows.py PROGRAM WORK    the status is 1 if a row is wrong, and each such row is printed
 
-The bytes of a row of written.tsv are accepted, and those of a row of read.tsv are refused for the row's reason, or
-accepted. Rows of types that a schema does not have are left out, and counted.
+The bytes of a row of written.tsv are accepted, with `--strict` too, and those of a row of read.tsv are refused for the
+row's reason, or accepted. Where bytes are accepted, their columns fill them, and else `columns` has the same reason.
+Rows of types that a schema does not have are left out, and counted.
 """
 import glob
+import json
 import os
 import re
 import subprocess
@@ -42,27 +44,42 @@ class Rows:
     def __init__(self, program):
         self.program, self.reasons = program, reasons()
 
-    def call(self, word, schema, given):
-        ran = subprocess.run([self.program, word, "--schema", schema], input=given, capture_output=True)
+    def call(self, words, schema, given):
+        ran = subprocess.run([self.program, *words, "--schema", schema], input=given, capture_output=True)
         return ran.returncode, ran.stdout, ran.stderr.decode()
 
-    def written(self, schema, given):
-        status, _, said = self.call("check", schema, given)
-        return f"refused: {said}" if status else ""
+    def accepted(self, words, schema, given):
+        """What is wrong where bytes are to be accepted."""
+        status, _, said = self.call(["check", *words], schema, given)
+        if status:
+            return f"refused: {said}"
+        status, out, said = self.call(["columns", "--json"], schema, given)
+        if status:
+            return f"no columns: {said}"
+        end = 0
+        for column in json.loads(out):
+            if column["offset"] != end:
+                return f"a column at {column['offset']} behind the end at {end}"
+            end += column["bytes"]
+        return "" if end == len(given) else f"columns of {end} bytes"
 
     def read(self, schema, given, answer):
+        """What is wrong with the answer to bytes of read.tsv."""
         if answer not in self.reasons:
-            return self.written(schema, given)
-        status, out, said = self.call("check", schema, given)
+            return self.accepted([], schema, given)
         text = self.reasons[answer]
-        return "" if status == 1 and said.startswith(f"bitcode: {text}") else f"status {status}: {said or out.decode()}"
+        for words in (["check"], ["columns"]):
+            status, out, said = self.call(words, schema, given)
+            if status != 1 or not said.startswith(f"bitcode: {text}"):
+                return f"{words[0]}: status {status}: {said or out.decode()}"
+        return ""
 
 
 def tried(rows, path, line, schema):
     """The line for a row that is wrong."""
     kind, one, other = line.split("\t")
     if path.endswith("written.tsv"):
-        wrong = rows.written(schema, bytes(map(int, other.split())))
+        wrong = rows.accepted(["--strict"], schema, bytes(map(int, other.split())))
     else:
         wrong = rows.read(schema, bytes(map(int, one.split())), other)
     return f"command: {path}: {line[:120]}: {wrong[:300].strip()}" if wrong else ""

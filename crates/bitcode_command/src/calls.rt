@@ -135,7 +135,11 @@ pub fn show(
     let types = types_of(rt, words)?;
     let format = format_of(alloc, words, &types, false)?;
     let bytes = read_bytes(rt, words.get_str("file"), shows)?;
-    for part in &parts_of(alloc, words, &bytes)? {
+    let parts = parts_of(alloc, words, &bytes)?;
+    if parts.len() > 1 && words.get_str("svg").is_some() {
+        return Err(Failure::of_words(alloc, "`--svg` writes a picture of one value"));
+    }
+    for part in &parts {
         let found = format.columns(alloc, part.bytes)?;
         if let Some(path) = words.get_str("svg") {
             write_bytes(rt, Some(path), picture(alloc, &found)?.as_bytes())?;

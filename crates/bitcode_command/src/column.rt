@@ -23,10 +23,10 @@ pub enum ColumnKind {
 pub enum Packing {
     /// Each entry in its full width.
     Raw,
-    /// Each entry as one of so many numbers from 0 on.
-    Within(u128),
+    /// Each entry as a number below a bound.
+    Below(u128),
     /// The same, and each number is what is added to the least entry, modulo the entries' width.
-    Shifted { by: u128, within: u128 },
+    Shifted { by: u128, bound: u128 },
     /// Lengths, some of them 255 or more: these follow the others in full.
     LargeLengths,
 }

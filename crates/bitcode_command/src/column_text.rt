@@ -45,9 +45,12 @@ fn int_text(kind: IntKind) -> &'static str {
 pub fn packing_text(alloc: Global, part: &Column) -> Result<String, AllocError> {
     match part.extent.packing {
         Packing::Raw => String::from_str(alloc, "raw"),
-        Packing::Within(within) => format!(in alloc; "within {within}"),
-        Packing::Shifted { by, within } => shifted_text(alloc, part.kind, by, within),
-        Packing::LargeLengths => String::from_str(alloc, "some 255 or more"),
+        Packing::Below(bound) => {
+            let bound = number_text(alloc, bound)?;
+            format!(in alloc; "below {bound}")
+        }
+        Packing::Shifted { by, bound } => shifted_text(alloc, part.kind, by, bound),
+        Packing::LargeLengths => String::from_str(alloc, "some above 254"),
     }
 }
 
@@ -63,18 +66,29 @@ fn first_negative(kind: ColumnKind) -> Option<u128> {
     }
 }
 
+// A number, of which a large one is a power of 2.
+fn number_text(alloc: Global, number: u128) -> Result<String, AllocError> {
+    match number {
+        0x1_0000 => String::from_str(alloc, "2^16"),
+        0x1_0000_0000 => String::from_str(alloc, "2^32"),
+        0x1_0000_0000_0000_0000 => String::from_str(alloc, "2^64"),
+        _ => format!(in alloc; "{number}"),
+    }
+}
+
 // The least entry and how many numbers from it on.
 fn shifted_text(
     alloc: Global,
     kind: ColumnKind,
     by: u128,
-    within: u128,
+    bound: u128,
 ) -> Result<String, AllocError> {
+    let bound = number_text(alloc, bound)?;
     match first_negative(kind) {
         Some(first) if by >= first => {
             let below = by.wrapping_neg() & first.wrapping_mul(2).wrapping_sub(1);
-            format!(in alloc; "-{below} + within {within}")
+            format!(in alloc; "-{below} + below {bound}")
         }
-        _ => format!(in alloc; "{by} + within {within}"),
+        _ => format!(in alloc; "{by} + below {bound}"),
     }
 }

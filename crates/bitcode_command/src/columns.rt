@@ -166,23 +166,35 @@ fn take_leaf(to: &mut Survey<'_>, node: &SchemaNode, count: usize) -> Result<(),
         SchemaNode::NonZero(kind) => to.column(ColumnKind::Ints(*kind), count)?,
         SchemaNode::F32 => to.column(ColumnKind::F32, count)?,
         SchemaNode::F64 => to.column(ColumnKind::F64, count)?,
-        SchemaNode::Str(_) => {
-            let bytes = to.lengths(count)?;
-            to.column(ColumnKind::TextBytes, bytes)?
-        }
+        SchemaNode::Str(capacity) => return take_texts(to, *capacity, count),
         SchemaNode::Duration => return take_durations(to, count),
-        SchemaNode::Uuid => to.column(
-            ColumnKind::Ints(IntKind::U8),
-            count.saturating_mul(ID_BYTES),
-        )?,
+        SchemaNode::Uuid => {
+            let bytes = count.saturating_mul(ID_BYTES);
+            to.count(bytes);
+            to.column(ColumnKind::Ints(IntKind::U8), bytes)?
+        }
         _ => (),
     }
     to.verify(to.since(from), from, leaf_of(node), count)
 }
 
+// Takes the columns of so many texts: their lengths, and their bytes.
+fn take_texts(to: &mut Survey<'_>, capacity: Option<usize>, count: usize) -> Result<(), Failure> {
+    let from = to.at();
+    let bytes = to.lengths(count)?;
+    let behind = to.at();
+    to.column(ColumnKind::TextBytes, bytes)?;
+    to.verify(to.since(from), behind, SchemaNode::Str(None), count)?;
+    if capacity.is_none() {
+        return Ok(());
+    }
+    to.verify(to.since(from), from, SchemaNode::Str(capacity), count)
+}
+
 // Takes the columns of so many durations: the seconds and the nanoseconds.
 fn take_durations(to: &mut Survey<'_>, count: usize) -> Result<(), Failure> {
     let from = to.at();
+    to.count(count.saturating_mul(2));
     to.enter(Step::Field("secs"))?;
     to.column(ColumnKind::Ints(IntKind::U64), count)?;
     to.verify(to.since(from), from, SchemaNode::Int(IntKind::U64), count)?;
@@ -205,8 +217,6 @@ fn leaf_of(node: &SchemaNode) -> SchemaNode {
         SchemaNode::NonZero(kind) => SchemaNode::NonZero(*kind),
         SchemaNode::F32 => SchemaNode::F32,
         SchemaNode::F64 => SchemaNode::F64,
-        SchemaNode::Str(capacity) => SchemaNode::Str(*capacity),
-        SchemaNode::Duration => SchemaNode::Duration,
         SchemaNode::Uuid => SchemaNode::Uuid,
         _ => SchemaNode::Unit,
     }

@@ -95,7 +95,7 @@ fn packed(head: usize, entries: usize, digits: Digits) -> Extent {
         return raw(head, entries, 1);
     }
     Extent {
-        packing: Packing::Within(u128::from(digits.base)),
+        packing: Packing::Below(u128::from(digits.base)),
         size: digits.size(entries).saturating_add(head),
     }
 }
@@ -113,7 +113,7 @@ fn extent_of_bytes(entries: usize, bytes: &[u8]) -> Result<Extent, Reason> {
     let least = behind.first().ok_or(Reason::Eof)?;
     let packing = Packing::Shifted {
         by: u128::from(*least),
-        within: u128::from(digits.base),
+        bound: u128::from(digits.base),
     };
     Ok(Extent {
         packing,
@@ -134,7 +134,7 @@ fn extent_of_narrow(
         raw(0, entries, narrow)
     };
     let packing = match packing {
-        Packing::Raw => Packing::Within(numbers_in_width(narrow).unwrap_or(0)),
+        Packing::Raw => Packing::Below(numbers_in_width(narrow).unwrap_or(0)),
         packing => packing,
     };
     Ok(Extent {
@@ -145,9 +145,9 @@ fn extent_of_narrow(
 
 // The packing of numbers of so many bytes that were stored so, each less the least entry.
 fn shifted(packing: Packing, least: u128, width: usize) -> Packing {
-    let (first, within) = match packing {
-        Packing::Shifted { by, within } => (by, within),
-        Packing::Within(within) => (0, within),
+    let (first, bound) = match packing {
+        Packing::Shifted { by, bound } => (by, bound),
+        Packing::Below(bound) => (0, bound),
         packing => return packing,
     };
     let sum = least.wrapping_add(first);
@@ -155,7 +155,7 @@ fn shifted(packing: Packing, least: u128, width: usize) -> Packing {
         Some(numbers) => sum % numbers,
         None => sum,
     };
-    Packing::Shifted { by, within }
+    Packing::Shifted { by, bound }
 }
 
 // The extent of a column of integers of so many bytes at the front of the bytes.

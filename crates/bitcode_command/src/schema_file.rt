@@ -10,6 +10,9 @@ use std::collections::BTreeMap;
 // How many nodes may be inside each other: as many as JSON may nest.
 const MOST_DEEP: usize = 128;
 
+// How many bytes the name of a field or a variant may have.
+const MOST_IN_NAME: usize = 255;
+
 // The indices of the declared types, by their names.
 type Names<'a> = BTreeMap<&'a str, usize>;
 
@@ -244,8 +247,16 @@ fn read_members<'a>(
             Ok(node) => node,
             Err(fault) => return Err(fault.in_field(alloc, member.0)),
         };
-        let name = String::from_str(alloc, member.0)?;
+        let name = read_member_name(alloc, member.0)?;
         members.push(Member { name, node })?;
     }
     Ok(members)
+}
+
+// The name of a field or a variant.
+fn read_member_name(alloc: Global, name: &str) -> Result<String, Fault> {
+    if name.len() > MOST_IN_NAME {
+        return Err(Fault::new(alloc, "a name has more than 255 bytes"));
+    }
+    Ok(String::from_str(alloc, name)?)
 }
