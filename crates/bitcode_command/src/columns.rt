@@ -1,4 +1,7 @@
 //! The columns of an input, node by node.
+ghost use Rattle.std.specs.Prelude.{◌≡◌, length, true, IfOk};
+ghost use Rattle.bitcode_command.specs.Placing.{stand_from};
+
 use crate::column::ColumnKind;
 use crate::failure::Failure;
 use crate::place::Step;
@@ -20,7 +23,10 @@ pub fn columns(
     schema: &Schema,
     bytes: &[u8],
     strict: bool,
-) -> Result<Surveyed, Failure> {
+) -> Result<Surveyed, Failure>
+    ensures { IfOk result
+        (λ found. stand_from 0 found.columns.items (length bytes.now) ≡ true) }
+{
     let mut survey = Survey::new(alloc, bytes, strict);
     walk(&mut survey, schema.root(), 1)?;
     survey.finish()
@@ -28,7 +34,9 @@ pub fn columns(
 
 // Takes the columns of so many values of a node.
 #[cycle(walk)]
-fn walk<'a>(to: &mut Survey<'a>, node: &'a SchemaNode, count: usize) -> Result<(), Failure> {
+fn walk<'a>(to: &mut Survey<'a>, node: &'a SchemaNode, count: usize) -> Result<(), Failure>
+    ensures { to.new.whole.now ≡ to.old.whole.now }
+{
     to.count(count);
     match node {
         SchemaNode::List(capacity, element) => {
@@ -103,7 +111,9 @@ fn keep_within(
 
 // Takes the column of variants of so many enums, and counts each. Without variants there is no enum, and for one
 // variant there is no column.
-fn variants_of(to: &mut Survey<'_>, variants: usize, count: usize) -> Result<Counts, Failure> {
+fn variants_of(to: &mut Survey<'_>, variants: usize, count: usize) -> Result<Counts, Failure>
+    ensures { to.new.whole.now ≡ to.old.whole.now }
+{
     match variants {
         0 if count > 0 => Err(to.fault(to.at(), Reason::InvalidEnumVariant)),
         0 | 1 => Ok([count; 256]),
@@ -117,7 +127,9 @@ fn walk_fields<'a>(
     to: &mut Survey<'a>,
     nodes: &'a [SchemaNode],
     count: usize,
-) -> Result<(), Failure> {
+) -> Result<(), Failure>
+    ensures { to.new.whole.now ≡ to.old.whole.now }
+{
     for index in 0..nodes.len() {
         to.enter(Step::Index(index))?;
         walk(to, &nodes[index], count)?;
@@ -132,7 +144,9 @@ fn walk_named<'a>(
     to: &mut Survey<'a>,
     named: &'a [(String, SchemaNode)],
     count: usize,
-) -> Result<(), Failure> {
+) -> Result<(), Failure>
+    ensures { to.new.whole.now ≡ to.old.whole.now }
+{
     for field in named {
         to.enter(Step::Field(&field.0))?;
         walk(to, &field.1, count)?;
@@ -147,7 +161,9 @@ fn walk_payloads<'a>(
     to: &mut Survey<'a>,
     variants: &'a [(String, SchemaNode)],
     counts: &Counts,
-) -> Result<(), Failure> {
+) -> Result<(), Failure>
+    ensures { to.new.whole.now ≡ to.old.whole.now }
+{
     for (variant, count) in variants.iter().zip(counts) {
         to.enter(Step::Field(&variant.0))?;
         walk(to, &variant.1, *count)?;
@@ -157,7 +173,9 @@ fn walk_payloads<'a>(
 }
 
 // Takes the columns of so many values of a node without nodes in it.
-fn take_leaf(to: &mut Survey<'_>, node: &SchemaNode, count: usize) -> Result<(), Failure> {
+fn take_leaf(to: &mut Survey<'_>, node: &SchemaNode, count: usize) -> Result<(), Failure>
+    ensures { to.new.whole.now ≡ to.old.whole.now }
+{
     let from = to.at();
     match node {
         SchemaNode::Bool => to.column(ColumnKind::Bools, count)?,
@@ -179,7 +197,9 @@ fn take_leaf(to: &mut Survey<'_>, node: &SchemaNode, count: usize) -> Result<(),
 }
 
 // Takes the columns of so many texts: their lengths, and their bytes.
-fn take_texts(to: &mut Survey<'_>, capacity: Option<usize>, count: usize) -> Result<(), Failure> {
+fn take_texts(to: &mut Survey<'_>, capacity: Option<usize>, count: usize) -> Result<(), Failure>
+    ensures { to.new.whole.now ≡ to.old.whole.now }
+{
     let from = to.at();
     let bytes = to.lengths(count)?;
     let behind = to.at();
@@ -192,7 +212,9 @@ fn take_texts(to: &mut Survey<'_>, capacity: Option<usize>, count: usize) -> Res
 }
 
 // Takes the columns of so many durations: the seconds and the nanoseconds.
-fn take_durations(to: &mut Survey<'_>, count: usize) -> Result<(), Failure> {
+fn take_durations(to: &mut Survey<'_>, count: usize) -> Result<(), Failure>
+    ensures { to.new.whole.now ≡ to.old.whole.now }
+{
     let from = to.at();
     to.count(count.saturating_mul(2));
     to.enter(Step::Field("secs"))?;

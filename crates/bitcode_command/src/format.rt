@@ -1,4 +1,10 @@
 //! Both formats, each by its schema.
+ghost use Rattle.std.specs.Prelude.{IsTrue, IsFalse, OnOk};
+ghost use Rattle.bitcode_shapes.specs.Datum.{Datum};
+ghost use Rattle.bitcode_derive.specs.Strict.{StrictlySpellsDatum};
+ghost use Rattle.bitcode_derive.specs.Whole.{SpellsDatum};
+ghost use Rattle.bitcode_schema.specs.Forms.{shape_of};
+
 use crate::column::{Column, ColumnFault};
 use crate::columns::columns;
 use crate::failure::Failure;
@@ -78,7 +84,13 @@ impl Format {
     }
 }
 
-fn check_first(alloc: Global, schema: &Schema, bytes: &[u8], strict: bool) -> Result<(), Failure> {
+// Accepts the bytes of a value of the first format.
+fn check_first(alloc: Global, schema: &Schema, bytes: &[u8], strict: bool) -> Result<(), Failure>
+    ensures spelled { IsFalse strict → OnOk result
+        ((d : Datum) × SpellsDatum (shape_of schema.now.root) bytes.now d) }
+    ensures strictly { IsTrue strict → OnOk result
+        ((d : Datum) × StrictlySpellsDatum (shape_of schema.now.root) bytes.now d) }
+{
     let checked = if strict {
         check_value_strict(alloc, schema, bytes)
     } else {

@@ -5,13 +5,16 @@ use crate::fault::Fault;
 use crate::node::{Member, Node, Types};
 use bitcode_schema::schema::{IntKind, Schema, SchemaNode};
 use bitcode_untyped::shape::{Shape, ShapeNode};
-use std::alloc::{AllocFailed, Global};
+use std::alloc::Global;
 
 // How deep the nodes of a schema may lie inside each other, and how many there may be, if each type is written out
 // wherever it is named.
 const MOST_DEEP: usize = 512;
 
 const MOST_NODES: usize = 1 << 16;
+
+const NOT_IN_SECOND: &str =
+    "the second format has no NonZero type, no capacity, no `Duration` and no `Uuid`";
 
 // What all calls need. `left` is how many nodes may still be made.
 #[derive(Drop)]
@@ -41,10 +44,6 @@ impl Writing<'_> {
             None => Err(self.fault("the type has more than 65536 nodes")),
         }
     }
-
-    fn boxed<T>(&self, node: T) -> Result<Box<T>, AllocFailed<T>> {
-        Box::new(self.alloc, node)
-    }
 }
 
 /// The schema of the first format, in which each named type is written out.
@@ -63,41 +62,41 @@ pub fn first_format(alloc: Global, types: &Types) -> Result<Schema, Fault> {
     }
 }
 
+// The node of a type without parameters.
+fn schema_leaf(node: &Node) -> Option<SchemaNode> {
+    match node {
+        Node::Unit => Some(SchemaNode::Unit),
+        Node::Bool => Some(SchemaNode::Bool),
+        Node::Char => Some(SchemaNode::Char),
+        Node::Int(kind) => Some(SchemaNode::Int(*kind)),
+        Node::NonZero(kind) => Some(SchemaNode::NonZero(*kind)),
+        Node::F32 => Some(SchemaNode::F32),
+        Node::F64 => Some(SchemaNode::F64),
+        Node::Text(limit) => Some(SchemaNode::Str(*limit)),
+        Node::Duration => Some(SchemaNode::Duration),
+        Node::Uuid => Some(SchemaNode::Uuid),
+        _ => None,
+    }
+}
+
 #[cycle(first)]
 fn schema_node(to: &mut Writing<'_>, node: &Node, depth: usize) -> Result<SchemaNode, Fault> {
     let inside = to.inside(depth)?;
-    Ok(match to.types.resolve(node) {
-        Node::Unit => SchemaNode::Unit,
-        Node::Bool => SchemaNode::Bool,
-        Node::Char => SchemaNode::Char,
-        Node::Int(kind) => SchemaNode::Int(*kind),
-        Node::NonZero(kind) => SchemaNode::NonZero(*kind),
-        Node::F32 => SchemaNode::F32,
-        Node::F64 => SchemaNode::F64,
-        Node::Text(limit) => SchemaNode::Str(*limit),
-        Node::Duration => SchemaNode::Duration,
-        Node::Uuid => SchemaNode::Uuid,
-        Node::List(limit, element) => {
-            let element = schema_node(to, element, inside)?;
-            SchemaNode::List(*limit, to.boxed(element)?)
-        }
-        Node::Array(element, count) => {
-            let element = schema_node(to, element, inside)?;
-            SchemaNode::Array(*count, to.boxed(element)?)
-        }
+    let node = to.types.resolve(node);
+    if let Some(leaf) = schema_leaf(node) {
+        return Ok(leaf);
+    }
+    Ok(match node {
+        Node::List(limit, element) => SchemaNode::List(*limit, schema_box(to, element, inside)?),
+        Node::Array(element, count) => SchemaNode::Array(*count, schema_box(to, element, inside)?),
         Node::Map(key, part) => {
-            let key = schema_node(to, key, inside)?;
-            let part = schema_node(to, part, inside)?;
-            SchemaNode::Map(to.boxed(key)?, to.boxed(part)?)
+            let key = schema_box(to, key, inside)?;
+            SchemaNode::Map(key, schema_box(to, part, inside)?)
         }
-        Node::Option(inner) => {
-            let inner = schema_node(to, inner, inside)?;
-            SchemaNode::Option(to.boxed(inner)?)
-        }
+        Node::Option(inner) => SchemaNode::Option(schema_box(to, inner, inside)?),
         Node::Result(ok, err) => {
-            let ok = schema_node(to, ok, inside)?;
-            let err = schema_node(to, err, inside)?;
-            SchemaNode::Result(to.boxed(ok)?, to.boxed(err)?)
+            let ok = schema_box(to, ok, inside)?;
+            SchemaNode::Result(ok, schema_box(to, err, inside)?)
         }
         Node::Tuple(nodes) => SchemaNode::Tuple(schema_nodes(to, nodes, inside)?),
         Node::Struct(members) => SchemaNode::Struct(schema_members(to, members, inside)?),
@@ -108,8 +107,14 @@ fn schema_node(to: &mut Writing<'_>, node: &Node, depth: usize) -> Result<Schema
                 SchemaNode::Enum(schema_members(to, variants, inside)?)
             }
         }
-        Node::Named(_) => return Err(to.fault("the type contains only itself")),
+        _ => return Err(to.fault("the type contains only itself")),
     })
+}
+
+#[cycle(first)]
+fn schema_box(to: &mut Writing<'_>, node: &Node, depth: usize) -> Result<Box<SchemaNode>, Fault> {
+    let node = schema_node(to, node, depth)?;
+    Ok(Box::new(to.alloc, node)?)
 }
 
 #[cycle(first)]
@@ -161,7 +166,7 @@ pub fn second_format(alloc: Global, types: &Types) -> Result<Shape, Fault> {
     }
 }
 
-fn shape_leaf(kind: IntKind) -> ShapeNode {
+fn shape_int(kind: IntKind) -> ShapeNode {
     match kind {
         IntKind::U8 => ShapeNode::U8,
         IntKind::U16 => ShapeNode::U16,
@@ -173,6 +178,20 @@ fn shape_leaf(kind: IntKind) -> ShapeNode {
         IntKind::I32 => ShapeNode::I32,
         IntKind::I64 => ShapeNode::I64,
         IntKind::I128 => ShapeNode::I128,
+    }
+}
+
+// The node of a type without parameters that the second format has.
+fn shape_leaf(node: &Node) -> Option<ShapeNode> {
+    match node {
+        Node::Unit => Some(ShapeNode::Unit),
+        Node::Bool => Some(ShapeNode::Bool),
+        Node::Char => Some(ShapeNode::Char),
+        Node::Int(kind) => Some(shape_int(*kind)),
+        Node::F32 => Some(ShapeNode::F32),
+        Node::F64 => Some(ShapeNode::F64),
+        Node::Text(None) => Some(ShapeNode::Str),
+        _ => None,
     }
 }
 
@@ -190,27 +209,17 @@ fn shape_node(
     {
         return Ok(ShapeNode::Ref(*index));
     }
-    Ok(match to.types.resolve(node) {
-        Node::Unit => ShapeNode::Unit,
-        Node::Bool => ShapeNode::Bool,
-        Node::Char => ShapeNode::Char,
-        Node::Int(kind) => shape_leaf(*kind),
-        Node::F32 => ShapeNode::F32,
-        Node::F64 => ShapeNode::F64,
-        Node::Text(None) => ShapeNode::Str,
-        Node::List(None, element) => {
-            let element = shape_node(to, element, true, inside)?;
-            ShapeNode::Seq(to.boxed(element)?)
-        }
+    let node = to.types.resolve(node);
+    if let Some(leaf) = shape_leaf(node) {
+        return Ok(leaf);
+    }
+    Ok(match node {
+        Node::List(None, element) => ShapeNode::Seq(shape_box(to, element, inside)?),
         Node::Map(key, part) => {
-            let key = shape_node(to, key, true, inside)?;
-            let part = shape_node(to, part, true, inside)?;
-            ShapeNode::Map(to.boxed(key)?, to.boxed(part)?)
+            let key = shape_box(to, key, inside)?;
+            ShapeNode::Map(key, shape_box(to, part, inside)?)
         }
-        Node::Option(inner) => {
-            let inner = shape_node(to, inner, true, inside)?;
-            ShapeNode::Option(to.boxed(inner)?)
-        }
+        Node::Option(inner) => ShapeNode::Option(shape_box(to, inner, inside)?),
         Node::Result(ok, err) => {
             let ok = shape_node(to, ok, true, inside)?;
             let err = shape_node(to, err, true, inside)?;
@@ -222,14 +231,15 @@ fn shape_node(
         Node::Array(element, count) => {
             ShapeNode::Tuple(shape_elements(to, element, *count, below, inside)?)
         }
-        Node::NonZero(_) | Node::Text(_) | Node::List(_, _) => {
-            return Err(to.fault("the second format has no NonZero type and no capacity"));
-        }
-        Node::Duration | Node::Uuid => {
-            return Err(to.fault("the second format has no `Duration` and no `Uuid`"));
-        }
         Node::Named(_) => return Err(to.fault("the type contains only itself")),
+        _ => return Err(to.fault(NOT_IN_SECOND)),
     })
+}
+
+#[cycle(second)]
+fn shape_box(to: &mut Writing<'_>, node: &Node, depth: usize) -> Result<Box<ShapeNode>, Fault> {
+    let node = shape_node(to, node, true, depth)?;
+    Ok(Box::new(to.alloc, node)?)
 }
 
 #[cycle(second)]

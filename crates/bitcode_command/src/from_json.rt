@@ -105,13 +105,7 @@ fn read(from: &Source<'_>, json: &Json<'_>, node: &Node, left: usize) -> Result<
             let items = list_of(from.alloc, json, *count, "elements")?;
             Ok(from.array(read_items(from, items, element, left)?))
         }
-        Node::Map(key, part) => {
-            if let Some(members) = members_of_map(from.types, json, key) {
-                read_object(from, members, key, part, left)
-            } else {
-                read_pairs(from, list_of_pairs(from.alloc, json)?, key, part, left)
-            }
-        }
+        Node::Map(key, part) => read_map(from, json, key, part, left),
         Node::Tuple(nodes) => {
             let items = list_of(from.alloc, json, nodes.len(), "fields")?;
             Ok(Value::Tuple(read_tuple(from, items, nodes, left)?))
@@ -120,36 +114,9 @@ fn read(from: &Source<'_>, json: &Json<'_>, node: &Node, left: usize) -> Result<
             let given = members_of_struct(from.alloc, json, members)?;
             Ok(Value::Tuple(read_struct(from, given, members, left)?))
         }
-        Node::Option(inner) => {
-            if json.is_null() {
-                return Ok(Value::Option(None));
-            }
-            let value = match wrapped(from.types, json, inner) {
-                Some(part) => read_payload(from, part, inner, SOME, left)?,
-                None => read(from, json, inner, left)?,
-            };
-            Ok(Value::Option(Some(from.boxed(value)?)))
-        }
-        Node::Result(ok, err) => {
-            let (index, part) = result_of(from.alloc, json)?;
-            let value = if index == 0 {
-                read_payload(from, part, ok, "Ok", left)?
-            } else {
-                read_payload(from, part, err, "Err", left)?
-            };
-            from.variant(index, value)
-        }
-        Node::Enum(variants) => {
-            let (index, part) = variant_of(from.alloc, json, variants)?;
-            let Some(variant) = variants.get(index) else {
-                return Err(from.expected("a variant", json));
-            };
-            let value = match part {
-                Some(part) => read_payload(from, part, &variant.node, &variant.name, left)?,
-                None => from.unit(json, variant)?,
-            };
-            from.variant(index, value)
-        }
+        Node::Option(inner) => read_option(from, json, inner, left),
+        Node::Result(ok, err) => read_result(from, json, ok, err, left),
+        Node::Enum(variants) => read_variant(from, json, variants, left),
         leaf => read_leaf(from.alloc, json, leaf),
     }
 }
@@ -211,6 +178,21 @@ fn read_struct<'a>(
     Ok(values)
 }
 
+#[cycle(read)]
+fn read_map(
+    from: &Source<'_>,
+    json: &Json<'_>,
+    key: &Node,
+    part: &Node,
+    left: usize,
+) -> Result<Value, Fault> {
+    if let Some(members) = members_of_map(from.types, json, key) {
+        read_object(from, members, key, part, left)
+    } else {
+        read_pairs(from, list_of_pairs(from.alloc, json)?, key, part, left)
+    }
+}
+
 // A map whose keys are texts, from an object.
 #[cycle(read)]
 fn read_object<'a>(
@@ -259,6 +241,58 @@ fn read_pairs(
         }
     }
     Ok(Value::Map(pairs))
+}
+
+#[cycle(read)]
+fn read_option(
+    from: &Source<'_>,
+    json: &Json<'_>,
+    inner: &Node,
+    left: usize,
+) -> Result<Value, Fault> {
+    if json.is_null() {
+        return Ok(Value::Option(None));
+    }
+    let value = match wrapped(from.types, json, inner) {
+        Some(part) => read_payload(from, part, inner, SOME, left)?,
+        None => read(from, json, inner, left)?,
+    };
+    Ok(Value::Option(Some(from.boxed(value)?)))
+}
+
+#[cycle(read)]
+fn read_result(
+    from: &Source<'_>,
+    json: &Json<'_>,
+    ok: &Node,
+    err: &Node,
+    left: usize,
+) -> Result<Value, Fault> {
+    let (index, part) = result_of(from.alloc, json)?;
+    let value = if index == 0 {
+        read_payload(from, part, ok, "Ok", left)?
+    } else {
+        read_payload(from, part, err, "Err", left)?
+    };
+    from.variant(index, value)
+}
+
+#[cycle(read)]
+fn read_variant(
+    from: &Source<'_>,
+    json: &Json<'_>,
+    variants: &[Member],
+    left: usize,
+) -> Result<Value, Fault> {
+    let (index, part) = variant_of(from.alloc, json, variants)?;
+    let Some(variant) = variants.get(index) else {
+        return Err(from.expected("a variant", json));
+    };
+    let value = match part {
+        Some(part) => read_payload(from, part, &variant.node, &variant.name, left)?,
+        None => from.unit(json, variant)?,
+    };
+    from.variant(index, value)
 }
 
 // The value of a member.

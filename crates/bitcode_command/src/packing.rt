@@ -152,7 +152,7 @@ fn shifted(packing: Packing, least: u128, width: usize) -> Packing {
     };
     let sum = least.wrapping_add(first);
     let by = match numbers_in_width(width) {
-        Some(numbers) => sum % numbers,
+        Some(numbers) => sum.checked_rem(numbers).unwrap_or(0),
         None => sum,
     };
     Packing::Shifted { by, bound }

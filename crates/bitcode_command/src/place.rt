@@ -23,6 +23,7 @@ pub enum Step<'a> {
 /// The steps to values, and how many bytes the paths of further columns may take.
 #[derive(Drop)]
 pub struct Place<'a> {
+    alloc: Global,
     steps: Vec<Step<'a>>,
     left: usize,
 }
@@ -31,6 +32,7 @@ impl<'a> Place<'a> {
     /// The whole value.
     pub fn new(alloc: Global) -> Self {
         Place {
+            alloc,
             steps: Vec::new(alloc),
             left: MOST_BYTES,
         }
@@ -48,17 +50,17 @@ impl<'a> Place<'a> {
     }
 
     /// The path, such as `players[].position.1`.
-    pub fn text(&self, alloc: Global) -> Result<String, AllocError> {
-        let mut text = String::new(alloc);
+    pub fn text(&self) -> Result<String, AllocError> {
+        let mut text = String::new(self.alloc);
         for step in &self.steps {
-            push_step(alloc, &mut text, *step)?;
+            push_step(self.alloc, &mut text, *step)?;
         }
         Ok(text)
     }
 
     /// The path of a column, which counts.
-    pub fn noted(&mut self, alloc: Global) -> Result<String, Failure> {
-        let text = self.text(alloc)?;
+    pub fn noted(&mut self) -> Result<String, Failure> {
+        let text = self.text()?;
         match self.left.checked_sub(text.len()) {
             Some(left) => {
                 self.left = left;

@@ -1,4 +1,7 @@
 //! Reading the columns of an input one after another, and noting where each is.
+ghost use Rattle.std.specs.Prelude.{◌≡◌, ◌≤◌, ◌+◌, ◌++◌, ◌∷◌, [], length, true, IfOk, IfSome, IsTrue, IsFalse};
+ghost use Rattle.bitcode_command.specs.Placing.{stand_from};
+
 use crate::column::{Column, ColumnFault, ColumnKind, Extent};
 use crate::failure::Failure;
 use crate::packing::{Digits, digits_of_variants, extent_of, extent_of_lengths};
@@ -23,6 +26,8 @@ pub struct Survey<'a> {
     place: Place<'a>,
     columns: Vec<Column>,
     values: usize,
+    ghost within: { at ≤ length whole.now },
+    ghost stand: { stand_from 0 columns.items at ≡ true },
 }
 
 /// The columns of an input, and how many values lie in one another in the value that it encodes.
@@ -34,7 +39,9 @@ pub struct Surveyed {
 
 impl<'a> Survey<'a> {
     /// The survey of an input of which nothing was read.
-    pub fn new(alloc: Global, input: &'a [u8], strict: bool) -> Self {
+    pub fn new(alloc: Global, input: &'a [u8], strict: bool) -> Self
+        ensures { result.whole.now ≡ input.now }
+    {
         Survey {
             alloc,
             strict,
@@ -52,8 +59,11 @@ impl<'a> Survey<'a> {
     }
 
     /// What was found, if nothing is left of the input.
-    pub fn finish(self) -> Result<Surveyed, Failure> {
-        if !self.rest().is_empty() {
+    pub fn finish(self) -> Result<Surveyed, Failure>
+        ensures { IfOk result
+            (λ found. stand_from 0 found.columns.items (length self.entry.whole.now) ≡ true) }
+    {
+        if self.at < self.whole.len() {
             return Err(self.fault(self.at, Reason::ExpectedEof));
         }
         let Survey {
@@ -65,17 +75,23 @@ impl<'a> Survey<'a> {
     }
 
     /// Counts values.
-    pub fn count(&mut self, values: usize) {
+    pub fn count(&mut self, values: usize)
+        ensures { self.new.whole.now ≡ self.old.whole.now }
+    {
         self.values = self.values.saturating_add(values);
     }
 
     /// Goes to a part of the values.
-    pub fn enter(&mut self, step: Step<'a>) -> Result<(), Failure> {
+    pub fn enter(&mut self, step: Step<'a>) -> Result<(), Failure>
+        ensures { self.new.whole.now ≡ self.old.whole.now }
+    {
         self.place.enter(step)
     }
 
     /// Goes back from the part.
-    pub fn leave(&mut self) {
+    pub fn leave(&mut self)
+        ensures { self.new.whole.now ≡ self.old.whole.now }
+    {
         self.place.leave();
     }
 
@@ -96,7 +112,7 @@ impl<'a> Survey<'a> {
 
     /// The fault of a column here, which begins at this place.
     pub fn fault(&self, at: usize, reason: Reason) -> Failure {
-        match self.place.text(self.alloc) {
+        match self.place.text() {
             Ok(path) if reason != Reason::OutOfMemory => Failure::Column(ColumnFault {
                 path,
                 offset: at,
@@ -106,29 +122,49 @@ impl<'a> Survey<'a> {
         }
     }
 
-    // Notes the column at the front of the rest.
-    fn note(&mut self, kind: ColumnKind, entries: usize, extent: Extent) -> Result<(), Failure> {
-        let end = self.at.saturating_add(extent.size);
-        if end > self.whole.len() {
-            return Err(self.fault(self.at, Reason::Eof));
+    // Where the next bytes end, if there are so many.
+    fn end_of(&self, size: usize) -> Option<usize>
+        ensures { IfSome result
+            (λ end. (self.now.at + size ≡ end) × (end ≤ length self.now.whole.now)) }
+    {
+        match self.at.checked_add(size) {
+            Some(end) if end <= self.whole.len() => Some(end),
+            _ => None,
         }
-        let path = self.place.noted(self.alloc)?;
-        self.columns.push(Column {
+    }
+
+    // Notes the column at the front of the rest.
+    #[tactic(auto, using(crate::proofs::PlacingLemmas::stand_next))]
+    fn note(&mut self, kind: ColumnKind, entries: usize, extent: Extent) -> Result<(), Failure>
+        ensures { self.new.whole.now ≡ self.old.whole.now }
+    {
+        let offset = self.at;
+        let Some(end) = self.end_of(extent.size) else {
+            return Err(self.fault(offset, Reason::Eof));
+        };
+        let path = self.place.noted()?;
+        let column = Column {
             path,
             kind,
             entries,
-            offset: self.at,
+            offset,
             extent,
-        })?;
+        };
+        if !add(&mut self.columns, column) {
+            return Err(Failure::OutOfMemory);
+        }
         self.at = end;
         Ok(())
     }
 
     /// Takes a column of entries of a kind.
-    pub fn column(&mut self, kind: ColumnKind, entries: usize) -> Result<(), Failure> {
+    pub fn column(&mut self, kind: ColumnKind, entries: usize) -> Result<(), Failure>
+        ensures { self.new.whole.now ≡ self.old.whole.now }
+    {
+        let from = self.at;
         match extent_of(kind, entries, self.rest()) {
             Ok(extent) => self.note(kind, entries, extent),
-            Err(reason) => Err(self.fault(self.at, reason)),
+            Err(reason) => Err(self.fault(from, reason)),
         }
     }
 
@@ -157,13 +193,15 @@ impl<'a> Survey<'a> {
     }
 
     /// Takes a column of lengths, and tells their sum.
-    pub fn lengths(&mut self, count: usize) -> Result<usize, Failure> {
+    pub fn lengths(&mut self, count: usize) -> Result<usize, Failure>
+        ensures { self.new.whole.now ≡ self.old.whole.now }
+    {
         let from = self.at;
         let bytes = self.rest();
         let mut input = bytes;
         let mut lengths = LengthDecoder::new(self.alloc);
         if let Err(error) = lengths.populate(&mut input, count) {
-            return Err(self.fault(self.at, error.reason));
+            return Err(self.fault(from, error.reason));
         }
         let size = bytes.len().saturating_sub(input.len());
         self.note(
@@ -179,7 +217,9 @@ impl<'a> Survey<'a> {
     }
 
     /// Takes a column of variants, of so many there are, and counts each.
-    pub fn variants(&mut self, count: usize, variants: usize) -> Result<Counts, Failure> {
+    pub fn variants(&mut self, count: usize, variants: usize) -> Result<Counts, Failure>
+        ensures { self.new.whole.now ≡ self.old.whole.now }
+    {
         let from = self.at;
         self.column(ColumnKind::Variants(variants), count)?;
         if self.strict {
@@ -190,6 +230,17 @@ impl<'a> Survey<'a> {
             Some(counts) => Ok(counts),
             None => Err(self.fault(from, Reason::InvalidPacking)),
         }
+    }
+}
+
+// Adds a column, if memory allows it.
+fn add(columns: &mut Vec<Column>, column: Column) -> bool
+    ensures added { IsTrue result → columns.new.items ≡ columns.old.items ++ column ∷ [] }
+    ensures kept { IsFalse result → columns.new.items ≡ columns.old.items }
+{
+    match columns.push(column) {
+        Ok(()) => true,
+        Err(_) => false,
     }
 }
 

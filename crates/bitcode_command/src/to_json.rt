@@ -8,7 +8,7 @@ use crate::node::{Member, Node, Types};
 use crate::options::{SOME, is_nullable, looks_wrapped};
 use bitcode_untyped::value::Value;
 use json::Writer;
-use std::alloc::{AllocError, Global};
+use std::alloc::Global;
 
 // How many lists and objects may be inside each other, and how many values: options between them count too.
 const ROOM: Room = Room {
@@ -79,6 +79,39 @@ impl Target<'_> {
     fn mismatch(&self) -> Fault {
         self.fault("the value is not of the schema")
     }
+
+    // The elements of a list or an array.
+    fn elements<'v>(&self, value: &'v Value) -> Result<&'v Vec<Value>, Fault> {
+        match value {
+            Value::Seq(values) => Ok(values),
+            Value::Tuple(values) => Ok(values),
+            _ => Err(self.mismatch()),
+        }
+    }
+
+    // So many fields.
+    fn fields<'v>(&self, value: &'v Value, count: usize) -> Result<&'v Vec<Value>, Fault> {
+        match value {
+            Value::Tuple(values) if values.len() == count => Ok(values),
+            _ => Err(self.mismatch()),
+        }
+    }
+
+    // The keys and values of a map.
+    fn pairs<'v>(&self, value: &'v Value) -> Result<&'v Vec<(Value, Value)>, Fault> {
+        match value {
+            Value::Map(pairs) => Ok(pairs),
+            _ => Err(self.mismatch()),
+        }
+    }
+
+    // The index of a variant, and its payload.
+    fn variant<'v>(&self, value: &'v Value) -> Result<(usize, &'v Value), Fault> {
+        match value {
+            Value::Enum(index, payload) => Ok((*index as usize, payload)),
+            _ => Err(self.mismatch()),
+        }
+    }
 }
 
 #[cycle(write)]
@@ -91,71 +124,18 @@ fn write(
 ) -> Result<(), Fault> {
     let room = to.below(room)?;
     match to.types.resolve(node) {
-        Node::List(_, element) => match value {
-            Value::Seq(values) => write_items(to, values, element, room, out),
-            Value::Bytes(bytes) => Ok(write_numbers(bytes, out)?),
-            _ => Err(to.mismatch()),
-        },
-        Node::Array(element, _) => match value {
-            Value::Seq(values) => write_items(to, values, element, room, out),
-            Value::Tuple(values) => write_items(to, values, element, room, out),
-            _ => Err(to.mismatch()),
-        },
-        Node::Map(key, part) => match value {
-            Value::Map(pairs) => {
-                if has_text_keys(to.types, key) && are_distinct(to.alloc, pairs)? {
-                    write_object(to, pairs, part, room, out)
-                } else {
-                    write_pairs(to, pairs, key, part, room, out)
-                }
-            }
-            _ => Err(to.mismatch()),
-        },
-        Node::Tuple(nodes) => match value {
-            Value::Tuple(values) => write_tuple(to, values, nodes, room, out),
-            _ => Err(to.mismatch()),
-        },
-        Node::Struct(members) => match value {
-            Value::Tuple(values) => write_struct(to, values, members, room, out),
-            _ => Err(to.mismatch()),
-        },
-        Node::Option(inner) => match value {
-            Value::Option(None) => Ok(out.null()?),
-            Value::Option(Some(value)) => {
-                if is_nullable(to.types, inner) && looks_wrapped(to.types, value, inner) {
-                    write_payload(to, value, inner, SOME, room, out)
-                } else {
-                    write(to, value, inner, room, out)
-                }
-            }
-            _ => Err(to.mismatch()),
-        },
-        Node::Result(ok, err) => match value {
-            Value::Enum(0, value) => write_payload(to, value, ok, "Ok", room, out),
-            Value::Enum(1, value) => write_payload(to, value, err, "Err", room, out),
-            _ => Err(to.mismatch()),
-        },
-        Node::Enum(variants) => match value {
-            Value::Enum(index, value) => match variants.get(*index as usize) {
-                Some(variant) => match to.types.resolve(&variant.node) {
-                    Node::Unit => Ok(out.string(&variant.name)?),
-                    node => write_payload(to, value, node, &variant.name, room, out),
-                },
-                None => Err(to.mismatch()),
-            },
-            _ => Err(to.mismatch()),
-        },
+        Node::List(_, element) => write_items(to, to.elements(value)?, element, room, out),
+        Node::Array(element, _) => write_items(to, to.elements(value)?, element, room, out),
+        Node::Map(key, part) => write_map(to, to.pairs(value)?, key, part, room, out),
+        Node::Tuple(nodes) => { write_tuple(to, to.fields(value, nodes.len())?, nodes, room, out) }
+        Node::Struct(members) => {
+            write_struct(to, to.fields(value, members.len())?, members, room, out)
+        }
+        Node::Option(inner) => write_option(to, value, inner, room, out),
+        Node::Result(ok, err) => write_result(to, value, ok, err, room, out),
+        Node::Enum(variants) => write_variant(to, value, variants, room, out),
         leaf => write_leaf(to.alloc, value, leaf, out),
     }
-}
-
-// The bytes of a list.
-fn write_numbers(bytes: &[u8], out: &mut Writer) -> Result<(), AllocError> {
-    out.begin_array()?;
-    for byte in bytes {
-        out.u64(*byte as u64)?;
-    }
-    out.end_array()
 }
 
 #[cycle(write)]
@@ -184,13 +164,10 @@ fn write_tuple(
     room: Room,
     out: &mut Writer,
 ) -> Result<(), Fault> {
-    if values.len() != nodes.len() {
-        return Err(to.mismatch());
-    }
     let inside = to.inside(room)?;
     out.begin_array()?;
-    for index in 0..values.len() {
-        if let Err(fault) = write(to, &values[index], &nodes[index], inside, out) {
+    for (index, (value, node)) in values.iter().zip(nodes).enumerate() {
+        if let Err(fault) = write(to, value, node, inside, out) {
             return Err(fault.in_item(to.alloc, index));
         }
     }
@@ -205,19 +182,31 @@ fn write_struct(
     room: Room,
     out: &mut Writer,
 ) -> Result<(), Fault> {
-    if values.len() != members.len() {
-        return Err(to.mismatch());
-    }
     let inside = to.inside(room)?;
     out.begin_object()?;
-    for index in 0..values.len() {
-        let member = &members[index];
+    for (value, member) in values.iter().zip(members) {
         out.key(&member.name)?;
-        if let Err(fault) = write(to, &values[index], &member.node, inside, out) {
+        if let Err(fault) = write(to, value, &member.node, inside, out) {
             return Err(fault.in_field(to.alloc, &member.name));
         }
     }
     Ok(out.end_object()?)
+}
+
+#[cycle(write)]
+fn write_map(
+    to: &Target<'_>,
+    pairs: &[(Value, Value)],
+    key: &Node,
+    part: &Node,
+    room: Room,
+    out: &mut Writer,
+) -> Result<(), Fault> {
+    if has_text_keys(to.types, key) && are_distinct(to.alloc, pairs)? {
+        write_object(to, pairs, part, room, out)
+    } else {
+        write_pairs(to, pairs, key, part, room, out)
+    }
 }
 
 // A map whose keys are different texts.
@@ -269,6 +258,61 @@ fn write_pairs(
         out.end_array()?;
     }
     Ok(out.end_array()?)
+}
+
+#[cycle(write)]
+fn write_option(
+    to: &Target<'_>,
+    value: &Value,
+    inner: &Node,
+    room: Room,
+    out: &mut Writer,
+) -> Result<(), Fault> {
+    match value {
+        Value::Option(None) => Ok(out.null()?),
+        Value::Option(Some(some)) => {
+            if is_nullable(to.types, inner) && looks_wrapped(to.types, some, inner) {
+                write_payload(to, some, inner, SOME, room, out)
+            } else {
+                write(to, some, inner, room, out)
+            }
+        }
+        _ => Err(to.mismatch()),
+    }
+}
+
+#[cycle(write)]
+fn write_result(
+    to: &Target<'_>,
+    value: &Value,
+    ok: &Node,
+    err: &Node,
+    room: Room,
+    out: &mut Writer,
+) -> Result<(), Fault> {
+    match to.variant(value)? {
+        (0, payload) => write_payload(to, payload, ok, "Ok", room, out),
+        (_, payload) => write_payload(to, payload, err, "Err", room, out),
+    }
+}
+
+// A variant of an enum: its name, if its payload is a unit, or else an object.
+#[cycle(write)]
+fn write_variant(
+    to: &Target<'_>,
+    value: &Value,
+    variants: &[Member],
+    room: Room,
+    out: &mut Writer,
+) -> Result<(), Fault> {
+    let (index, payload) = to.variant(value)?;
+    let Some(variant) = variants.get(index) else {
+        return Err(to.mismatch());
+    };
+    match to.types.resolve(&variant.node) {
+        Node::Unit => Ok(out.string(&variant.name)?),
+        node => write_payload(to, payload, node, &variant.name, room, out),
+    }
 }
 
 // An object with one member.

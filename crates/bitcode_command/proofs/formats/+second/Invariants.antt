@@ -5,6 +5,9 @@ use Rattle.bitcode_command.proofs.formats.+second.Given as goal
 abbrev pub decreases-shape_node : goal.decreases-shape_node
 decreases-shape_node l = 2 * l.depth
 
+abbrev pub decreases-shape_box : goal.decreases-shape_box
+decreases-shape_box l = 2 * l.depth + 1
+
 abbrev pub decreases-shape_nodes : goal.decreases-shape_nodes
 decreases-shape_nodes l = 2 * l.depth + 1
 
