@@ -24,7 +24,7 @@ WORDS = {
     "docs/ARCHITECTURE.md": 1900,
     "docs/CODERS.md": 2500,
     "docs/COMMAND.md": 600,
-    "docs/DECISIONS.md": 3900,
+    "docs/DECISIONS.md": 4100,
     "docs/DIFFERENCES.md": 1530,
     "docs/EXAMPLES.md": 1200,
     "docs/FORMAT.md": 3600,
@@ -32,11 +32,11 @@ WORDS = {
     "docs/PROMISES.md": 4600,
     "docs/PROVING.md": 1050,
     "docs/SEALED.md": 1050,
-    "docs/SPEED.md": 880,
-    "docs/TESTING.md": 1260,
+    "docs/SPEED.md": 920,
+    "docs/TESTING.md": 1330,
     "docs/TOOLCHAIN.md": 1650,
 }
-WORDS_IN_ALL = 30000
+WORDS_IN_ALL = 30750
 COLUMNS = 120
 HISTORY = "docs/HISTORY.md"
 COUNTED = "docs/TESTING.md"

@@ -1,11 +1,11 @@
 #!/usr/bin/env python3
-"""Runs the sessions of docs/COMMAND.md, for scripts/checks/command.sh.
+"""Runs the sessions of docs/COMMAND.md and README.md, for scripts/checks/command.sh.
 
-    session.py PROGRAM [--write]    prints each command that writes something else than the page says; the status is then 1
+    session.py PROGRAM [--write]    prints each command that writes something else than a page says; the status is then 1
 
-A block of the page that begins with `$ ` is a session: each such line is a command, and what it writes stands below it,
-on standard output or standard error. All blocks run in one folder, which has the files of scripts/command/session.
-`--write` puts what the commands write into the page.
+A block of a page that begins with `$ ` is a session: each such line is a command, and what it writes stands below it,
+on standard output or standard error. All blocks run in one folder, which has the files of scripts/command/session, and
+the README's monster in `orc`. `--write` puts what the commands write into the pages.
 """
 import os
 import re
@@ -15,7 +15,9 @@ import sys
 import tempfile
 
 FOLDER = os.path.dirname(os.path.realpath(__file__))
-PAGE = f"{FOLDER}/../../docs/COMMAND.md"
+TOP = os.path.realpath(f"{FOLDER}/../..")
+PAGES = [f"{TOP}/docs/COMMAND.md", f"{TOP}/README.md"]
+ORC = "bitcode encode orc.json --schema monster.json -o orc"
 BLOCK = re.compile(r"(?<=^```text\n)(\$ .*?)(?=^```$)", re.M | re.S)
 
 
@@ -27,16 +29,14 @@ def run(command, folder, paths):
 
 
 def main():
+    program, *words = sys.argv[1:]
     wrong = 0
-    with open(PAGE) as file:
-        page = file.read()
     with tempfile.TemporaryDirectory() as work:
         os.makedirs(f"{work}/bin")
-        os.symlink(os.path.realpath(sys.argv[1]), f"{work}/bin/bitcode")
-        os.symlink(os.path.realpath(f"{FOLDER}/.."), f"{work}/scripts")
+        os.symlink(os.path.realpath(program), f"{work}/bin/bitcode")
         folder = f"{work}/session"
         shutil.copytree(f"{FOLDER}/session", folder)
-        os.symlink(os.path.realpath(f"{FOLDER}/.."), f"{folder}/scripts")
+        os.symlink(f"{TOP}/scripts", f"{folder}/scripts")
 
         def block(found):
             nonlocal wrong
@@ -46,19 +46,27 @@ def main():
                 writes = run(command[2:], folder, f"{work}/bin")
                 if writes != said:
                     wrong += 1
-                    print(f"command: docs/COMMAND.md: `{command[2:]}` writes\n{writes}")
+                    print(f"command: `{command[2:]}` writes\n{writes}")
                 text += f"{command}\n{writes}"
             return text
 
-        written = BLOCK.sub(block, page)
-        if run(f"cmp monsters.svg {os.path.dirname(os.path.realpath(PAGE))}/columns.svg", folder, f"{work}/bin"):
+        for path in PAGES:
+            with open(path) as file:
+                page = file.read()
+            written = BLOCK.sub(block, page)
+            if not BLOCK.search(page):
+                wrong += 1
+                print(f"command: {path} has no session")
+            if "--write" in words:
+                with open(path, "w") as file:
+                    file.write(written)
+            run(ORC, folder, f"{work}/bin")
+        if "--write" in words:
+            shutil.copy(f"{folder}/monsters.svg", f"{TOP}/docs/columns.svg")
+        elif run(f"cmp monsters.svg {TOP}/docs/columns.svg", folder, f"{work}/bin"):
             wrong += 1
             print("command: docs/columns.svg is not the picture that the page's session writes")
-    if "--write" in sys.argv:
-        with open(PAGE, "w") as file:
-            file.write(written)
-        return
-    sys.exit(1 if wrong or not BLOCK.search(page) else 0)
+    sys.exit(1 if wrong and "--write" not in words else 0)
 
 
 main()

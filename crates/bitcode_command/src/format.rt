@@ -52,8 +52,8 @@ impl Format {
         }
     }
 
-    /// Accepts the bytes of a value, which has at most so many nodes in the second format. With `strict` it accepts only
-    /// the bytes that are written for a value. The failure of the first format names the column at fault.
+    /// Accepts the bytes of a value, which has at most so many nodes in the second format. With `strict` it accepts
+    /// only the bytes that are written for a value. The failure of the first format names the column at fault.
     pub fn check(
         &self,
         alloc: Global,

@@ -13,8 +13,8 @@ const STYLE: &str =
     "<style>text{font:13px sans-serif;fill:#1f2328}.quiet{fill:#59636e}rect{fill:#0969da}\
 @media(prefers-color-scheme:dark){text{fill:#f0f6fc}.quiet{fill:#9198a1}rect{fill:#4493f8}}</style>";
 
-/// An SVG picture of an input's columns: a bar for each, as long as its share of the bytes. Its colours suit a light and
-/// a dark page.
+/// An SVG picture of an input's columns: a bar for each, as long as its share of the bytes. Its colours suit a light
+/// and a dark page.
 pub fn picture(alloc: Global, parts: &[Column]) -> Result<String, AllocError> {
     let mut all = 0usize;
     for part in parts {

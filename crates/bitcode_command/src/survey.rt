@@ -168,7 +168,8 @@ impl<'a> Survey<'a> {
         }
     }
 
-    /// Refuses bytes that are not the columns of so many values of the node. The fault is that of a column at this place.
+    /// Refuses bytes that are not the columns of so many values of the node. The fault is that of a column at this
+    /// place.
     pub fn verify(
         &self,
         bytes: &[u8],
