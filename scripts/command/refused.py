@@ -3,10 +3,11 @@
 
     refused.py PROGRAM WORK    prints each that it does not refuse as it should; the status is then 1
 
-A row has the type, JSON, and what the command says of it. Then bytes of a list of monsters are cut off and changed, one
-after the other: the command ends with the status 0 or 1, with one line on standard error in the second case, in at most
-512 MB.
+A row has the type, JSON, and what the command says of it. A few bytes that encode a large or a deep value are refused.
+Then bytes of a list of monsters are cut off and changed, one after the other: the command ends with the status 0 or 1,
+with one line on standard error in the second case, in at most 512 MB.
 """
+import json
 import os
 import resource
 import subprocess
@@ -76,6 +77,28 @@ def texts(program, work):
             yield f"{text}: {found}"
 
 
+def large(program, work):
+    """What is wrong with the answers to a few bytes that encode 2^40 or 2,000 units, and 130 lists in one another."""
+    units, deep = f"{work}/units.json", f"{work}/deep.json"
+    with open(units, "w") as file:
+        file.write('{"root": {"Vec": "()"}}')
+    with open(deep, "w") as file:
+        types = {f"A{i}": {"Vec": f"A{i + 1}"} for i in range(129)} | {"A129": {"Vec": "u8"}}
+        json.dump({"root": "A0", "types": types}, file)
+    many, fewer = (bytes([255, 0]) + count.to_bytes(8, "little") for count in (2**40, 2000))
+    rows = [
+        (["check", "--schema", units], many, 0, ""),
+        (["columns", "--schema", units], many, 0, ""),
+        (["decode", "--schema", units, "--second", "--limit", "1000"], fewer, 1, "bitcode: too many nodes\n"),
+        (["decode", "--schema", deep, "--second"], b"\x01" * 129 + b"\x00", 1,
+         f"bitcode: JSON: at {'[0]' * 127}: nested deeper than 127 lists and objects\n"),
+    ]
+    for words, given, status, said in rows:
+        found = call(program, words, given)
+        if (found[0], found[2]) != (status, said):
+            yield f"{words}: {found}"
+
+
 def damages(whole):
     """The bytes cut off at each place, and with each byte changed."""
     for place in range(len(whole)):
@@ -89,15 +112,15 @@ def damaged(program, work):
     path = schema("Vec<Monster>", work)
     with open(f"{FOLDER}/session/monsters.json", "rb") as file:
         whole = call(program, ["encode", "--schema", path], file.read())[1]
-    for word in ("columns", "check"):
+    for words in (["columns"], ["check"], ["check", "--strict"]):
         for given in damages(whole):
-            status, _, said = call(program, [word, "--schema", path], given)
+            status, _, said = call(program, [*words, "--schema", path], given)
             if status not in (0, 1) or said.count("\n") != status:
-                yield f"{word}: {list(given)}: {status} {said}"
+                yield f"{words}: {list(given)}: {status} {said}"
 
 
 def main():
-    wrong = [*texts(*sys.argv[1:3]), *damaged(*sys.argv[1:3])]
+    wrong = [line for part in (texts, large, damaged) for line in part(*sys.argv[1:3])]
     for line in wrong[:20]:
         print(f"command: {line}")
     sys.exit(1 if wrong else 0)

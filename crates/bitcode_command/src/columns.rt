@@ -2,10 +2,10 @@
 ghost use Rattle.std.specs.Prelude.{◌≡◌, length, true, IfOk};
 ghost use Rattle.bitcode_command.specs.Placing.{stand_from};
 
-use crate::column::ColumnKind;
+use crate::column::{Column, ColumnKind};
 use crate::failure::Failure;
 use crate::place::Step;
-use crate::survey::{Counts, Survey, Surveyed, lists_of_units};
+use crate::survey::{Counts, Survey, lists_of_units};
 use bitcode_memory::error::Reason;
 use bitcode_schema::schema::{IntKind, Schema, SchemaNode};
 use std::alloc::Global;
@@ -23,9 +23,9 @@ pub fn columns(
     schema: &Schema,
     bytes: &[u8],
     strict: bool,
-) -> Result<Surveyed, Failure>
+) -> Result<Vec<Column>, Failure>
     ensures { IfOk result
-        (λ found. stand_from 0 found.columns.items (length bytes.now) ≡ true) }
+        (λ columns. stand_from 0 columns.items (length bytes.now) ≡ true) }
 {
     let mut survey = Survey::new(alloc, bytes, strict);
     walk(&mut survey, schema.root(), 1)?;
@@ -37,7 +37,6 @@ pub fn columns(
 fn walk<'a>(to: &mut Survey<'a>, node: &'a SchemaNode, count: usize) -> Result<(), Failure>
     ensures { to.new.whole.now ≡ to.old.whole.now }
 {
-    to.count(count);
     match node {
         SchemaNode::List(capacity, element) => {
             let from = to.at();
@@ -188,7 +187,6 @@ fn take_leaf(to: &mut Survey<'_>, node: &SchemaNode, count: usize) -> Result<(),
         SchemaNode::Duration => return take_durations(to, count),
         SchemaNode::Uuid => {
             let bytes = count.saturating_mul(ID_BYTES);
-            to.count(bytes);
             to.column(ColumnKind::Ints(IntKind::U8), bytes)?
         }
         _ => (),
@@ -216,7 +214,6 @@ fn take_durations(to: &mut Survey<'_>, count: usize) -> Result<(), Failure>
     ensures { to.new.whole.now ≡ to.old.whole.now }
 {
     let from = to.at();
-    to.count(count.saturating_mul(2));
     to.enter(Step::Field("secs"))?;
     to.column(ColumnKind::Ints(IntKind::U64), count)?;
     to.verify(to.since(from), from, SchemaNode::Int(IntKind::U64), count)?;

@@ -1,19 +1,11 @@
 //! Both formats, each by its schema.
-ghost use Rattle.std.specs.Prelude.{IsTrue, IsFalse, OnOk};
-ghost use Rattle.bitcode_shapes.specs.Datum.{Datum};
-ghost use Rattle.bitcode_derive.specs.Strict.{StrictlySpellsDatum};
-ghost use Rattle.bitcode_derive.specs.Whole.{SpellsDatum};
-ghost use Rattle.bitcode_schema.specs.Forms.{shape_of};
-
-use crate::column::{Column, ColumnFault};
+use crate::column::Column;
 use crate::columns::columns;
 use crate::failure::Failure;
 use crate::fault::Fault;
-use crate::first_values::decode_first;
+use crate::first_bytes::{check_first, decode_first};
 use crate::formats::{first_format, second_format};
 use crate::node::Types;
-use bitcode_memory::error::{Error, Reason};
-use bitcode_schema::check::{check_value, check_value_strict};
 use bitcode_schema::encode::encode_value;
 use bitcode_schema::schema::Schema;
 use bitcode_serde::deserialize::{deserialize_strict, deserialize_within};
@@ -70,7 +62,7 @@ impl Format {
     /// The columns of bytes of the first format.
     pub fn columns(&self, alloc: Global, bytes: &[u8]) -> Result<Vec<Column>, Failure> {
         match self {
-            Format::First(schema) => Ok(columns(alloc, schema, bytes, false)?.columns),
+            Format::First(schema) => columns(alloc, schema, bytes, false),
             Format::Second(_) => Ok(Vec::new(alloc)),
         }
     }
@@ -81,36 +73,6 @@ impl Format {
             Format::First(schema) => Ok(encode_value(alloc, schema, value)?),
             Format::Second(shape) => Ok(serialize(alloc, shape, value)?),
         }
-    }
-}
-
-// Accepts the bytes of a value of the first format.
-fn check_first(alloc: Global, schema: &Schema, bytes: &[u8], strict: bool) -> Result<(), Failure>
-    ensures spelled { IsFalse strict → OnOk result
-        ((d : Datum) × SpellsDatum (shape_of schema.now.root) bytes.now d) }
-    ensures strictly { IsTrue strict → OnOk result
-        ((d : Datum) × StrictlySpellsDatum (shape_of schema.now.root) bytes.now d) }
-{
-    let checked = if strict {
-        check_value_strict(alloc, schema, bytes)
-    } else {
-        check_value(alloc, schema, bytes)
-    };
-    match checked {
-        Ok(()) => Ok(()),
-        Err(error) => Err(fault_of(alloc, schema, bytes, error)),
-    }
-}
-
-// The failure of bytes that were refused, with the column at fault.
-fn fault_of(alloc: Global, schema: &Schema, bytes: &[u8], error: Error) -> Failure {
-    let strict = error.reason == Reason::NotTheWrittenText;
-    match columns(alloc, schema, bytes, strict) {
-        Err(Failure::Column(fault)) => Failure::Column(ColumnFault {
-            reason: error.reason,
-            ..fault
-        }),
-        _ => Failure::from(error),
     }
 }
 

@@ -8,7 +8,7 @@ mod columns;
 mod failure;
 mod fault;
 mod files;
-mod first_values;
+mod first_bytes;
 mod format;
 mod formats;
 mod from_json;

@@ -25,16 +25,8 @@ pub struct Survey<'a> {
     at: usize,
     place: Place<'a>,
     columns: Vec<Column>,
-    values: usize,
     ghost within: { at ≤ length whole.now },
     ghost stand: { stand_from 0 columns.items at ≡ true },
-}
-
-/// The columns of an input, and how many values lie in one another in the value that it encodes.
-#[derive(Drop)]
-pub struct Surveyed {
-    pub columns: Vec<Column>,
-    pub values: usize,
 }
 
 impl<'a> Survey<'a> {
@@ -49,7 +41,6 @@ impl<'a> Survey<'a> {
             at: 0,
             place: Place::new(alloc),
             columns: Vec::new(alloc),
-            values: 0,
         }
     }
 
@@ -58,27 +49,16 @@ impl<'a> Survey<'a> {
         self.alloc
     }
 
-    /// What was found, if nothing is left of the input.
-    pub fn finish(self) -> Result<Surveyed, Failure>
+    /// The columns, if nothing is left of the input.
+    pub fn finish(self) -> Result<Vec<Column>, Failure>
         ensures { IfOk result
-            (λ found. stand_from 0 found.columns.items (length self.entry.whole.now) ≡ true) }
+            (λ columns. stand_from 0 columns.items (length self.entry.whole.now) ≡ true) }
     {
         if self.at < self.whole.len() {
             return Err(self.fault(self.at, Reason::ExpectedEof));
         }
-        let Survey {
-            columns,
-            values,
-            ..
-        } = self;
-        Ok(Surveyed { columns, values })
-    }
-
-    /// Counts values.
-    pub fn count(&mut self, values: usize)
-        ensures { self.new.whole.now ≡ self.old.whole.now }
-    {
-        self.values = self.values.saturating_add(values);
+        let Survey { columns, .. } = self;
+        Ok(columns)
     }
 
     /// Goes to a part of the values.
