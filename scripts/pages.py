@@ -23,7 +23,8 @@ WORDS = {
     "SECURITY.md": 350,
     "docs/ARCHITECTURE.md": 1900,
     "docs/CODERS.md": 2500,
-    "docs/DECISIONS.md": 3900,
+    "docs/COMMAND.md": 600,
+    "docs/DECISIONS.md": 4100,
     "docs/DIFFERENCES.md": 1530,
     "docs/EXAMPLES.md": 1200,
     "docs/FORMAT.md": 3600,
@@ -31,18 +32,18 @@ WORDS = {
     "docs/PROMISES.md": 4600,
     "docs/PROVING.md": 1050,
     "docs/SEALED.md": 1050,
-    "docs/SPEED.md": 880,
-    "docs/TESTING.md": 1260,
+    "docs/SPEED.md": 920,
+    "docs/TESTING.md": 1330,
     "docs/TOOLCHAIN.md": 1650,
 }
-WORDS_IN_ALL = 30000
+WORDS_IN_ALL = 30750
 COLUMNS = 120
 HISTORY = "docs/HISTORY.md"
 COUNTED = "docs/TESTING.md"
 BEGIN, END = "<!-- scripts/pages.py --write -->\n", "<!-- end -->\n"
 BY_SCRIPT = re.compile(r"^<!-- scripts/.*?^<!-- end -->$", re.M | re.S)
-# What else is in docs/, which scripts/speed/picture.py reads and writes.
-NO_PAGES = ["docs/speed.svg", "docs/speed.tsv"]
+# What else is in docs/, which scripts/speed/picture.py reads and writes, and a picture that the command writes.
+NO_PAGES = ["docs/speed.svg", "docs/speed.tsv", "docs/columns.svg"]
 DATE = re.compile(r"\b20\d\d-\d\d-\d\d\b")
 BY_HAND = re.compile(r"\b\d[\d,]* (?:tests|edits|must-fail edits|functions|crates)\b")
 TEST = r"^#\[test\]"

@@ -1,0 +1,2 @@
+-- Lemmas of the command.
+mod PlacingLemmas

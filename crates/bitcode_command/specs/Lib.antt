@@ -1,0 +1,2 @@
+-- What contracts of the command speak of.
+pub mod Placing

@@ -1,0 +1,262 @@
+//! Reading schema files.
+use crate::fault::Fault;
+use crate::json_text::{expected, parse};
+use crate::leaf::leaf;
+use crate::node::{Member, Node, Types};
+use json::{Scratch, Value};
+use std::alloc::Global;
+use std::collections::BTreeMap;
+
+// How many nodes may be inside each other: as many as JSON may nest.
+const MOST_DEEP: usize = 128;
+
+// How many bytes the name of a field or a variant may have.
+const MOST_IN_NAME: usize = 255;
+
+// The indices of the declared types, by their names.
+type Names<'a> = BTreeMap<&'a str, usize>;
+
+/// The types of a schema file.
+///
+/// The error names the place in the file: the line of what is no JSON, or the path to a node.
+pub fn read_schema(alloc: Global, text: &str) -> Result<Types, Fault> {
+    let mut scratch = Scratch::new(alloc);
+    let file = parse(alloc, text, &mut scratch)?;
+    let Value::Object(_) = &file else {
+        return Err(expected(alloc, "an object with `root` and `types`", &file));
+    };
+    let empty = Value::Object(Vec::new(alloc));
+    let types = match members_of(alloc, file.get("types").unwrap_or(&empty)) {
+        Ok(types) => types,
+        Err(fault) => return Err(fault.in_field(alloc, "types")),
+    };
+    let names = names_of(alloc, types)?;
+    let nodes = read_types(alloc, types, &names)?;
+    let Some(part) = file.get("root") else {
+        return Err(Fault::new(alloc, "expected `root`"));
+    };
+    match read_node(alloc, part, &names, MOST_DEEP) {
+        Ok(root) => Ok(Types { nodes, root }),
+        Err(fault) => Err(fault.in_field(alloc, "root")),
+    }
+}
+
+// The members of an object.
+fn members_of<'v, 'a>(
+    alloc: Global,
+    value: &'v Value<'a>,
+) -> Result<&'v Vec<(&'a str, Value<'a>)>, Fault> {
+    match value {
+        Value::Object(members) => Ok(members),
+        _ => Err(expected(alloc, "an object", value)),
+    }
+}
+
+// The items of a list.
+fn items_of<'v, 'a>(alloc: Global, value: &'v Value<'a>) -> Result<&'v Vec<Value<'a>>, Fault> {
+    match value {
+        Value::Array(items) => Ok(items),
+        _ => Err(expected(alloc, "a list", value)),
+    }
+}
+
+// The indices of types, which have different names.
+fn names_of<'a>(alloc: Global, types: &[(&'a str, Value<'a>)]) -> Result<Names<'a>, Fault> {
+    let mut names = BTreeMap::new(alloc);
+    for index in 0..types.len() {
+        let name = types[index].0;
+        if names.insert(name, index)?.is_some() {
+            let fault = Fault::new(alloc, "declared twice");
+            return Err(fault.in_field(alloc, name).in_field(alloc, "types"));
+        }
+    }
+    Ok(names)
+}
+
+// The nodes of the types.
+fn read_types<'a>(
+    alloc: Global,
+    types: &[(&'a str, Value<'a>)],
+    names: &Names<'a>,
+) -> Result<Vec<Node>, Fault> {
+    let mut nodes = Vec::new(alloc);
+    for member in types {
+        match read_node(alloc, &member.1, names, MOST_DEEP) {
+            Ok(node) => nodes.push(node)?,
+            Err(fault) => return Err(fault.in_field(alloc, member.0).in_field(alloc, "types")),
+        }
+    }
+    Ok(nodes)
+}
+
+// A node: a name, or an object of one member.
+#[cycle(schema)]
+fn read_node<'a>(
+    alloc: Global,
+    value: &Value<'a>,
+    names: &Names<'a>,
+    left: usize,
+) -> Result<Node, Fault> {
+    let Some(left) = left.checked_sub(1) else {
+        return Err(Fault::new(alloc, "nested too deep"));
+    };
+    match value {
+        Value::String(name) => read_name(alloc, name, names),
+        Value::Object(members) => match members.as_slice() {
+            [member] => match read_composite(alloc, &member.1, member.0, names, left) {
+                Ok(node) => Ok(node),
+                Err(fault) => Err(fault.in_field(alloc, member.0)),
+            },
+            _ => Err(expected(alloc, "an object with one member", value)),
+        },
+        _ => Err(expected(alloc, "a type", value)),
+    }
+}
+
+// The node of a type without parameters.
+fn read_name<'a>(alloc: Global, name: &'a str, names: &Names<'a>) -> Result<Node, Fault> {
+    if let Some(index) = names.get(&name) {
+        return Ok(Node::Named(*index));
+    }
+    match leaf(name) {
+        Some(node) => Ok(node),
+        None => {
+            let what = format!(in alloc;
+                "`{name}` is neither a type of the format nor one of `types`"
+            )?;
+            Err(Fault::new(alloc, what.as_str()))
+        }
+    }
+}
+
+// The node of a type with parameters.
+#[cycle(schema)]
+fn read_composite<'a>(
+    alloc: Global,
+    value: &Value<'a>,
+    name: &str,
+    names: &Names<'a>,
+    left: usize,
+) -> Result<Node, Fault> {
+    match name {
+        "Vec" => Ok(Node::List(
+            None,
+            Box::new(alloc, read_node(alloc, value, names, left)?)?,
+        )),
+        "Option" => Ok(Node::Option(Box::new(alloc, read_node(alloc, value, names, left)?)?)),
+        "ArrayString" => Ok(Node::Text(Some(read_number(alloc, value)?))),
+        "ArrayVec" | "array" => read_counted(alloc, value, name, names, left),
+        "BTreeMap" | "Result" => read_two(alloc, value, name, names, left),
+        "tuple" => Ok(Node::Tuple(read_nodes(alloc, items_of(alloc, value)?, names, left)?)),
+        "struct" => Ok(Node::Struct(read_members(alloc, members_of(alloc, value)?, names, left)?)),
+        "enum" => Ok(Node::Enum(read_members(alloc, members_of(alloc, value)?, names, left)?)),
+        _ => {
+            let what = format!(in alloc; "`{name}` is no type with parameters")?;
+            Err(Fault::new(alloc, what.as_str()))
+        }
+    }
+}
+
+// A number of elements or bytes.
+fn read_number(alloc: Global, value: &Value<'_>) -> Result<usize, Fault> {
+    match value.as_u64() {
+        Some(number) => Ok(number as usize),
+        None => Err(expected(alloc, "a number below 2^64", value)),
+    }
+}
+
+// An array or an `ArrayVec`: a list of the element's node and a number.
+#[cycle(schema)]
+fn read_counted<'a>(
+    alloc: Global,
+    value: &Value<'a>,
+    name: &str,
+    names: &Names<'a>,
+    left: usize,
+) -> Result<Node, Fault> {
+    let [element, count] = items_of(alloc, value)?.as_slice() else {
+        return Err(expected(alloc, "a list of a type and a number", value));
+    };
+    let element = match read_node(alloc, element, names, left) {
+        Ok(node) => Box::new(alloc, node)?,
+        Err(fault) => return Err(fault.in_item(alloc, 0)),
+    };
+    match read_number(alloc, count) {
+        Ok(count) if name == "array" => Ok(Node::Array(element, count)),
+        Ok(count) => Ok(Node::List(Some(count), element)),
+        Err(fault) => Err(fault.in_item(alloc, 1)),
+    }
+}
+
+// A map or a result: a list of two nodes.
+#[cycle(schema)]
+fn read_two<'a>(
+    alloc: Global,
+    value: &Value<'a>,
+    name: &str,
+    names: &Names<'a>,
+    left: usize,
+) -> Result<Node, Fault> {
+    let [first, second] = items_of(alloc, value)?.as_slice() else {
+        return Err(expected(alloc, "a list of two types", value));
+    };
+    let first = match read_node(alloc, first, names, left) {
+        Ok(node) => Box::new(alloc, node)?,
+        Err(fault) => return Err(fault.in_item(alloc, 0)),
+    };
+    let second = match read_node(alloc, second, names, left) {
+        Ok(node) => Box::new(alloc, node)?,
+        Err(fault) => return Err(fault.in_item(alloc, 1)),
+    };
+    if name == "Result" {
+        Ok(Node::Result(first, second))
+    } else {
+        Ok(Node::Map(first, second))
+    }
+}
+
+// The nodes of a tuple.
+#[cycle(schema)]
+fn read_nodes<'a>(
+    alloc: Global,
+    values: &[Value<'a>],
+    names: &Names<'a>,
+    left: usize,
+) -> Result<Vec<Node>, Fault> {
+    let mut nodes = Vec::new(alloc);
+    for index in 0..values.len() {
+        match read_node(alloc, &values[index], names, left) {
+            Ok(node) => nodes.push(node)?,
+            Err(fault) => return Err(fault.in_item(alloc, index)),
+        }
+    }
+    Ok(nodes)
+}
+
+// The fields of a struct, or the variants of an enum.
+#[cycle(schema)]
+fn read_members<'a>(
+    alloc: Global,
+    values: &[(&'a str, Value<'a>)],
+    names: &Names<'a>,
+    left: usize,
+) -> Result<Vec<Member>, Fault> {
+    let mut members = Vec::new(alloc);
+    for member in values {
+        let node = match read_node(alloc, &member.1, names, left) {
+            Ok(node) => node,
+            Err(fault) => return Err(fault.in_field(alloc, member.0)),
+        };
+        let name = read_member_name(alloc, member.0)?;
+        members.push(Member { name, node })?;
+    }
+    Ok(members)
+}
+
+// The name of a field or a variant.
+fn read_member_name(alloc: Global, name: &str) -> Result<String, Fault> {
+    if name.len() > MOST_IN_NAME {
+        return Err(Fault::new(alloc, "a name has more than 255 bytes"));
+    }
+    Ok(String::from_str(alloc, name)?)
+}
