@@ -4,7 +4,7 @@ and one decoder for it, and not those of all that is inside. The toolchain has a
 from string import Template
 
 from declarations import Struct, fields_of
-from known_types import INTEGERS, MOST_FIELDS, of_text
+from known_types import INTEGERS, MOST_FIELDS, TYPES, of_text
 
 # A struct whose fields name no more types than these has no coders of its own, since that costs less to prove: one that
 # no enum and no struct with coders of its own holds, and one that such a type holds.
@@ -191,12 +191,9 @@ def own_types_in(type, own):
     if type.kind == "path" and type.name in own:
         found.append(type)
     if item and (item.types or item.consts):
-        found += [
-            inner
-            for field in fields_of(item)
-            for inner in own_types_in(field.type, inside_of(type, own))
-            if inner.name not in item.types
-        ]
+        types = [field.type for field in fields_of(item) if field.type.name not in item.types]
+        inner = [with_arguments(inner, item, type.parts) for inner in types]
+        found += [one for inner in inner for one in own_types_in(inner, inside_of(type, own))]
     return found + [inner for part in type.parts for inner in own_types_in(part, own)]
 
 
@@ -307,6 +304,44 @@ def inside(item, own, *parts):
         )
         names += [name] if name not in names and (known.is_closed or not item.types) else []
     return f"({', '.join(names)}{',' * (len(names) == 1)})"
+
+
+def with_arguments(type, item, parts):
+    """The type with what the item takes in the place of its parameters."""
+    lifetimes = [part for part in parts if part.kind == "lifetime"]
+    given = dict(zip([*item.types, *item.consts], [part for part in parts if part.kind != "lifetime"]))
+    given |= {item.lifetime: lifetimes[0]} if item.lifetime and lifetimes else {}
+    if type.name in given and not type.parts:
+        return given[type.name]
+    name = given[type.name].name if type.kind in ("array", "reference") and type.name in given else type.name
+    return type._replace(name=name, parts=[with_arguments(part, item, parts) for part in type.parts])
+
+
+def with_paths(type, own):
+    """The type with the whole path of each name."""
+    known = TYPES.get(type.name) if type.kind == "path" else None
+    path = own[type.name].path if type.kind == "path" and type.name in own else known.path if known else None
+    return type._replace(name=path or type.name, parts=[with_paths(part, own) for part in type.parts])
+
+
+def held_types(type, own):
+    """The types of the fields of open types of one's own that the type names, and of the fields inside these."""
+    found = [inner for part in type.parts for inner in held_types(part, own)]
+    item = own[type.name].item if type.kind == "path" and type.name in own and not own[type.name].is_closed else None
+    if not item or not is_pair(item) and not item.types:
+        return found
+    for field in fields_of(item):
+        inner = with_arguments(field.type, item, type.parts)
+        found += [inner, *held_types(inner, inside_of(type, own))]
+    return found
+
+
+def types_inside(item, own):
+    """The types inside those of the item's fields whose values own memory, with their paths."""
+    found = [inner for field in fields_of(item) for inner in held_types(field.type, own)]
+    known = {name: one for name, one in own.items() if name not in item.types}
+    texts = [of_text(with_paths(inner, known)) for inner in found if owns_memory(inner, known)]
+    return [text for place, text in enumerate(texts) if text not in texts[:place] and text not in item.types]
 
 
 def is_quoted(type, own):

@@ -53,11 +53,11 @@ $encoding WritesVariants<At<0>, At<$count>, ${simple}Columns<$es>> for $name {
 """
 PAYLOADS = """/// The payloads that values of `$simple` are made of, by their decoders.
 #[derive(Drop)]
-pub struct ${simple}Payloads<$types, $ds> {
-    all: $decoders,
+pub struct ${simple}Payloads<$of_payloads, $ds> {
+    all: Decoders$count<At<0>, $of_payloads, $ds>,
 }
 
-impl<$input, $shaped, $decoding> VariantPayloads<$input, At<0>, At<$count>, $name> for ${simple}Payloads<$types, $ds> {
+impl<$input, $shaped, $decoding> VariantPayloads<$input, At<0>, At<$count>, $name> for ${simple}Payloads<($payloads), $ds> {
     ghost held = { payloads_in (λ d. d.all)
         ⟦<$decoders as VariantPayloads<$input, At<0>, At<$count>, $name>>⟧.held };
 
@@ -85,7 +85,7 @@ impl<$input, $shaped, $decoding> VariantPayloads<$input, At<0>, At<$count>, $nam
 
 type ColumnsOf$arguments = ${simple}Columns<$all_encoders>;
 
-type PayloadsOf<$input, $types> = ${simple}Payloads<$types, $all_decoders>;
+type PayloadsOf<$input, $types> = ${simple}Payloads<($payloads), $all_decoders>;
 
 impl$has_encoder HasEncoder for $name {
     type Encoder = EnumEncoder<$count, ColumnsOf$arguments>;
@@ -159,6 +159,8 @@ class Generic(Numbered):
             "buffers": ", ".join(f"{name}: Buffer" for name, _ in es),
             "encoders": f"Encoders{self.count}<At<0>, {', '.join(encoders)}>",
             "decoding": ", ".join(decoding),
+            "of_payloads": self.letters(1, "V", "W", "X")[0],
+            "payloads": ", ".join(self.types),
             "decoders": f"Decoders{self.count}<At<0>, ({', '.join(self.types)}), {', '.join(ds)}>",
             "in_place": self.columns_alike(encoders, "c"),
             "inside": self.columns_alike(encoders, "c.all"),

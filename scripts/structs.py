@@ -245,8 +245,11 @@ def inside(item, own, types):
         return f"{item.name}Inside" + arguments(item)
     if is_generic(item):
         has_closed = any(own[found.name].is_closed for found in closed.own_types_of(item, own))
+        types = [*types, *(text for text in closed.types_inside(item, own) if text not in types)]
         return closed.inside(item, own, *types) if has_closed else halved(types) if types else "()"
-    return f"<{item.name}{arguments(item)} as HasDecoder<{item.lifetime or chr(39) + 'static'}>>::Decoder"
+    still = item.lifetime or "'static"
+    apart = [f"<{text} as HasDecoder<{still}>>::Decoder" for text in types_left(item, own)[1]]
+    return halved([f"<{item.name}{arguments(item)} as HasDecoder<{still}>>::Decoder", *apart])
 
 
 def lent_text(item, lent, ghost_use=""):
