@@ -4,8 +4,9 @@
     rows.py PROGRAM WORK    the status is 1 if a row is wrong, and each such row is printed
 
 The bytes of a row of written.tsv are accepted, with `--strict` too, and those of a row of read.tsv are refused for the
-row's reason, or accepted. Where bytes are accepted, their columns fill them, and else `columns` has the same reason.
-Rows of types that a schema does not have are left out, and counted.
+row's reason, or accepted. Where bytes are accepted, their columns fill them, and they are decoded to JSON, of which
+`encode` makes bytes that are decoded to the same JSON: for a row of written.tsv, the row's bytes. Else `columns` and
+`decode` have the same reason. Rows of types that a schema does not have are left out, and counted.
 """
 import glob
 import json
@@ -16,6 +17,8 @@ import sys
 from concurrent.futures import ThreadPoolExecutor
 
 NOT_IN_SCHEMAS = {"Vec<U8Char>"}
+# what `decode` refuses of bytes that encode a value
+BEYOND_JSON = ("too many nodes", "nests")
 FOLDER = os.path.dirname(os.path.realpath(__file__))
 
 
@@ -61,14 +64,27 @@ class Rows:
             if column["offset"] != end:
                 return f"a column at {column['offset']} behind the end at {end}"
             end += column["bytes"]
-        return "" if end == len(given) else f"columns of {end} bytes"
+        return f"columns of {end} bytes" if end != len(given) else self.decoded(schema, given, bool(words))
+
+    def decoded(self, schema, given, is_written):
+        """What is wrong with the JSON of bytes that are accepted."""
+        status, out, said = self.call(["decode"], schema, given)
+        if status:
+            return "" if any(reason in said for reason in BEYOND_JSON) else f"not decoded: {said}"
+        status, again, said = self.call(["encode"], schema, out)
+        if status:
+            return f"JSON is not encoded: {said}"
+        if is_written and again != given:
+            return f"JSON is encoded otherwise: {list(again)}"
+        status, third, said = self.call(["decode"], schema, again)
+        return "" if third == out else f"other JSON: {said or third.decode()[:100]}"
 
     def read(self, schema, given, answer):
         """What is wrong with the answer to bytes of read.tsv."""
         if answer not in self.reasons:
             return self.accepted([], schema, given)
         text = self.reasons[answer]
-        for words in (["check"], ["columns"]):
+        for words in (["check"], ["columns"], ["decode"]):
             status, out, said = self.call(words, schema, given)
             if status != 1 or not said.startswith(f"bitcode: {text}"):
                 return f"{words[0]}: status {status}: {said or out.decode()}"

@@ -1,8 +1,9 @@
 //! Bytes of the first format.
-ghost use Rattle.std.specs.Prelude.{IsTrue, IsFalse, OnOk};
+ghost use Rattle.std.specs.Prelude.{IsTrue, IsFalse, IfOk, OnOk};
 ghost use Rattle.bitcode_shapes.specs.Datum.{Datum};
 ghost use Rattle.bitcode_derive.specs.Strict.{StrictlySpellsDatum};
 ghost use Rattle.bitcode_derive.specs.Whole.{SpellsDatum};
+ghost use Rattle.bitcode_schema.specs.Decoding.{IsDecodingUnder};
 ghost use Rattle.bitcode_schema.specs.Forms.{shape_of};
 
 use crate::column::ColumnFault;
@@ -10,6 +11,7 @@ use crate::columns::columns;
 use crate::failure::Failure;
 use bitcode_memory::error::{Error, Reason};
 use bitcode_schema::check::{check_value, check_value_strict};
+use bitcode_schema::decode::decode_value_within;
 use bitcode_schema::schema::Schema;
 use bitcode_untyped::value::Value;
 use std::alloc::Global;
@@ -50,15 +52,17 @@ fn fault_of(alloc: Global, schema: &Schema, bytes: &[u8], error: Error) -> Failu
     }
 }
 
-/// The value of the schema that bytes encode, of at most so many nodes.
+/// The value of the schema that bytes encode, of at most so many nodes. The failure names the column at fault.
 pub fn decode_first(
     alloc: Global,
-    _schema: &Schema,
-    _bytes: &[u8],
-    _limit: usize,
-) -> Result<Value, Failure> {
-    Err(Failure::of_words(
-        alloc,
-        "bytes of the first format are not decoded yet: give `--second`",
-    ))
+    schema: &Schema,
+    bytes: &[u8],
+    limit: usize,
+) -> Result<Value, Failure>
+    ensures { IfOk result (λ value. IsDecodingUnder schema.now.root bytes.now value) }
+{
+    match decode_value_within(alloc, schema, bytes, limit) {
+        Ok(value) => Ok(value),
+        Err(error) => Err(fault_of(alloc, schema, bytes, error)),
+    }
 }
