@@ -80,6 +80,9 @@ impl<'a, T: DeserializeAs<'a>> DeserializeAs<'a> for Vec<T> {
         left: usize,
         place: usize,
     ) -> Result<Vec<T>, Error> {
+        if let Some(bytes) = T::read_bytes(reader, budget, place) {
+            return bytes;
+        }
         let list = enter_list(reader, budget, T::is_free(), place)?;
         let values: Vec<T> = read_elements(alloc, reader, budget, left, list)?;
         Ok(values)
