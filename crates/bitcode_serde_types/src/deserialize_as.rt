@@ -1,11 +1,9 @@
 //! Decoding values of Rust types.
-ghost use Rattle.std.specs.Prelude.{◌≡◌, ◌≢◌, ◌≤◌, ◌*◌, ℕ, length, map, IfOk, IfErr};
-ghost use Rattle.std.specs.Prelude.{IfNone, IfSome, OnOk};
-ghost use Rattle.bitcode_shapes.specs.Datum.{Datum, list, data_of};
+ghost use Rattle.std.specs.Prelude.{◌≡◌, ◌≢◌, ◌≤◌, ◌*◌, ℕ, length, IfOk, IfErr, OnOk};
+ghost use Rattle.bitcode_shapes.specs.Datum.{Datum};
 ghost use Rattle.bitcode_untyped.specs.Bounds.{column_free, element_count};
 ghost use Rattle.bitcode_untyped.specs.Nodes.{node_count};
 ghost use Rattle.bitcode_untyped.specs.PlacedColumns.{columns_of, entry_count};
-ghost use Rattle.bitcode_untyped.specs.ShapeTree.{seq_tree};
 ghost use Rattle.bitcode_untyped.specs.Spelling.{SpellsDatum};
 ghost use Rattle.bitcode_serde.specs.ReadingValues.{IsSteady, Continues, IsRefusalAt, IsValueReason};
 ghost use Rattle.bitcode_serde.specs.ReadingValues.{IsRefusalWithin};
@@ -44,28 +42,6 @@ pub trait DeserializeAs<'a>: SerializeAs + Drop {
             budget.new) }
         ensures refused { IfErr result
             (λ e. IsRefusalAt (Self.tree left) place reader.old e.reason) };
-
-    /// Reads a list of such values by one copy, if the type is that of a byte.
-    ///
-    /// Errors: those of [`DeserializeAs::read`].
-    fn read_bytes(
-        _reader: &mut Reader<'a>,
-        _budget: &mut Budget,
-        _place: usize,
-    ) -> Option<Result<Vec<Self>, Error>>
-        requires place { _place ≤ length _reader.old.places.below.items }
-        requires steady { IsSteady _reader.old }
-        ensures none { IfNone result
-            ((_reader.new ≡ _reader.old) × (_budget.new ≡ _budget.old)) }
-        ensures continues { IfSome result (λ r. OnOk r (Continues _reader.old _reader.new)) }
-        ensures read { IfSome result (λ r. IfOk r (λ v. (left : ℕ)
-            → ReadsAs (λ w. list (data_of (map Self.datum w.items))) (seq_tree (Self.tree left))
-            _place _reader.old _budget.old v _reader.new _budget.new)) }
-        ensures refused { IfSome result (λ r. IfErr r (λ e. (left : ℕ)
-            → IsRefusalAt (seq_tree (Self.tree left)) _place _reader.old e.reason)) }
-    {
-        None
-    }
 }
 
 // Reads a value from the whole input, as far as a budget of nodes keeps it.

@@ -16,9 +16,8 @@ use bitcode_memory::error::{Error, Reason};
 use bitcode_memory::refuse::err;
 use bitcode_serde::budget::Budget;
 use bitcode_serde::case::Case;
-use bitcode_serde::read_leaf::{read_bytes, read_leaf};
+use bitcode_serde::read_leaf::read_leaf;
 use bitcode_serde::reader::Reader;
-use bitcode_untyped::value::Value;
 use std::alloc::Global;
 
 // Reads a number or a bool: an entry of the column of its case.
@@ -94,18 +93,6 @@ impl<'a> DeserializeAs<'a> for u8 {
         place: usize,
     ) -> Result<u8, Error> {
         read_number(reader, budget, place)
-    }
-
-    fn read_bytes(
-        reader: &mut Reader<'a>,
-        budget: &mut Budget,
-        place: usize,
-    ) -> Option<Result<Vec<u8>, Error>> {
-        match read_bytes(reader, budget, place) {
-            Ok(Value::Bytes(bytes)) => Some(Ok(bytes)),
-            Ok(_) => unreachable!(),
-            Err(e) => Some(Err(e)),
-        }
     }
 }
 
