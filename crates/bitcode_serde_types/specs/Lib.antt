@@ -1,4 +1,3 @@
-pub mod Bytes
 pub mod DeepFaults
 pub mod FieldsWritten
 pub mod Keys

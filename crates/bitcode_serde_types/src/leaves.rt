@@ -62,10 +62,6 @@ impl SerializeAs for u8 {
     fn write(&self, writer: &mut Writer, _left: usize, place: usize) -> Result<(), Error> {
         write_leaf(self, writer, place)
     }
-
-    fn as_bytes(values: &[u8]) -> Option<&[u8]> {
-        Some(values)
-    }
 }
 
 impl SerializeAs for u16 {

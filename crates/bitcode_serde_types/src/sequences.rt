@@ -14,7 +14,6 @@ use bitcode_memory::error::Error;
 use bitcode_serde::budget::Budget;
 use bitcode_serde::reader::Reader;
 use bitcode_serde::step::Step;
-use bitcode_serde::walk::write_bytes;
 use bitcode_serde::write_column::Entry;
 use bitcode_serde::writer::Writer;
 use std::alloc::Global;
@@ -28,9 +27,6 @@ impl<T: SerializeAs> SerializeAs for Vec<T> {
 
     fn write(&self, writer: &mut Writer, left: usize, place: usize) -> Result<(), Error> {
         let values = self.as_slice();
-        if let Some(bytes) = T::as_bytes(values) {
-            return write_bytes(writer, place, bytes);
-        }
         writer.put(place, Entry::Length(values.len()))?;
         let element = writer.below(place, Step::Element)?;
         for value in values {

@@ -1,5 +1,5 @@
 //! Encoding values of Rust types.
-ghost use Rattle.std.specs.Prelude.{◌≡◌, ℕ, ◌≤◌, [], length, IfOk, IfErr, IfSome, OnOk};
+ghost use Rattle.std.specs.Prelude.{◌≡◌, ℕ, ◌≤◌, [], length, IfOk, IfErr, OnOk};
 ghost use Rattle.bitcode_shapes.specs.Datum.{Datum};
 ghost use Rattle.bitcode_untyped.specs.Bounds.{IsLimited};
 ghost use Rattle.bitcode_untyped.specs.Laws.{LengthsBelowLimit};
@@ -7,7 +7,6 @@ ghost use Rattle.bitcode_untyped.specs.ShapeTree.{ShapeTree, IsOf, IsSound};
 ghost use Rattle.bitcode_untyped.specs.Spelling.{SpellsDatum, datum_text};
 ghost use Rattle.bitcode_serde.specs.Serializing.{Outcome};
 ghost use Rattle.bitcode_serde.specs.Writing.{IsWriterReason};
-ghost use Rattle.bitcode_serde_types.specs.Bytes.{AreBytes};
 ghost use Rattle.bitcode_serde_types.specs.DeepFaults.{deep_faults};
 
 use bitcode_memory::error::Error;
@@ -35,13 +34,6 @@ pub trait SerializeAs {
         requires { place ≤ length writer.old.places.below.items }
         ensures { Outcome writer.old (tree left) place (datum self.now)
             (deep_faults (tree left) (datum self.now)) result writer.new };
-
-    /// The values as bytes, if the type is that of a byte: a list of them is written by one copy.
-    fn as_bytes(_values: &[Self]) -> Option<&[u8]>
-        ensures { IfSome result (λ bytes. AreBytes tree datum _values.now bytes.now) }
-    {
-        None
-    }
 }
 
 /// How many references a path may have, with the one to the type itself: the 512 of `serialize`, and that to its root.

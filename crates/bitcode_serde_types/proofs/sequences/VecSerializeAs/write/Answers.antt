@@ -8,15 +8,8 @@ use Rattle.bitcode_serde.proofs.EntryLemmas.{found_entry}
 use Rattle.bitcode_serde.proofs.SerializeLemmas.{refuses_use, begun, list_done, list_is, list_refused, refused_outcome, written_outcome}
 use Rattle.bitcode_serde.proofs.WalkLemmas.{among_entry, each_none, each_more, each_all, written_there}
 use Rattle.bitcode_serde_types.specs.DeepFaults.{deep_faults}
-use Rattle.bitcode_serde_types.proofs.ListLemmas.{seq_faults, bytes_written}
+use Rattle.bitcode_serde_types.proofs.ListLemmas.{seq_faults}
 use Rattle.bitcode_serde_types.proofs.sequences.VecSerializeAs.write.Goals as goal
-
-pub returns-in-Some : goal.returns-in-Some
-returns-in-Some g c =
-    rw (← c.as_slice-values.ensures.value)
-    (bytes_written (g.T.SerializeAs.tree c.args.left) g.T.SerializeAs.datum c.as_slice-values.result.now c.in-Some.bytes.now
-    (c.in-Some.ensures.of_byte c.args.left) c.in-Some.ensures.content c.args.writer.now c.args.place c.write_bytes.result c.write_bytes.new.writer
-    c.write_bytes.ensures)
 
 pub returns-in_err-put : goal.returns-in_err-put
 returns-in_err-put g c =
