@@ -21,10 +21,10 @@ WORDS = {
     "CHANGES.md": 1500,
     "CONTRIBUTING.md": 1200,
     "SECURITY.md": 350,
-    "docs/ARCHITECTURE.md": 1900,
+    "docs/ARCHITECTURE.md": 1910,
     "docs/CODERS.md": 2500,
     "docs/COMMAND.md": 600,
-    "docs/DECISIONS.md": 4100,
+    "docs/DECISIONS.md": 4150,
     "docs/DIFFERENCES.md": 1530,
     "docs/EXAMPLES.md": 1200,
     "docs/FORMAT.md": 3600,
@@ -36,7 +36,7 @@ WORDS = {
     "docs/TESTING.md": 1330,
     "docs/TOOLCHAIN.md": 1650,
 }
-WORDS_IN_ALL = 30750
+WORDS_IN_ALL = 31000
 COLUMNS = 120
 HISTORY = "docs/HISTORY.md"
 COUNTED = "docs/TESTING.md"
