@@ -1,15 +1,18 @@
 -- The column of 8-byte floats that keep their whole width is their bits behind the tag 0.
-use Rattle.std.proofs.Common.{◌≡◌, ℕ, zero, suc, eqb, ◌||◌, ◌&&◌, ◌+◌, ◌-◌, ◌*◌, ◌/◌, ◌%◌, ◌^◌, ◌<◌, ◌≤◌, ℤ, pos, false, List, [], ◌∷◌, ◌++◌, length, map, take, All, refl, sym, ap, ap₂, ◌∙◌, subst, arith, inl, inr}
+use Rattle.std.proofs.Common.{◌≡◌, ℕ, zero, suc, eqb, ◌||◌, ◌&&◌, ◌+◌, ◌-◌, ◌*◌, ◌/◌, ◌%◌, ◌^◌, ◌<◌, ◌≤◌, ℤ, pos, false, List, [], ◌∷◌, ◌++◌, length, map, take, drop, append_assoc, All, refl, sym, ap, ap₂, ◌∙◌, subst, arith, inl, inr}
 use Rattle.std.specs.Prelude.{to_bits, nat_lt, ◌-ℤ◌, unsigned_abs}
 use Rattle.std.specs.Float.{Float, binary64}
 use Rattle.std.specs.Simd.Lanes.{Each1, digits_l, number_l}
 use lib.Dec.{T}
 use lib.Ieee.{fits}
 use lib.Ieee.Bits.{to_bits-lt}
-use Rattle.std.proofs.Math.Nat.{suc-add, mul_assoc, pow-succ'}
+use Rattle.std.proofs.Math.Nat.{suc-add, suc-mul, mul_assoc, pow-succ'}
+use Rattle.std.proofs.Math.Seq.{take-add}
+use Rattle.std.specs.Simd.{first_chunks}
+use lib.ListN.{get_or}
 use Rattle.std.proofs.lemmas.Bool.{cond-true, cond_both, ltb-true, lt-ltb, ne_eqb}
 use Rattle.std.proofs.lemmas.Int.{ints}
-use Rattle.std.proofs.lemmas.List.{length-map, length-take, map-append}
+use Rattle.std.proofs.lemmas.List.{length-map, length-take, map-append, drop-drop}
 use Rattle.std.proofs.lemmas.List.Elements.{All-map, All-take}
 use Rattle.std.proofs.lemmas.List.Concat.{flat_map-append}
 use Rattle.std.proofs.lemmas.Simd.{map-map}
@@ -103,3 +106,28 @@ whole_text xs low high numbers some is_low is_high far =
 pub bits_fit : (floats : List Float) → Each1 (λ x. T (fits binary64 x)) floats → Each1 (λ n. n < 2 ^ 64) (map (λ x. to_bits binary64 x) floats)
 bits_fit [] held = tt
 bits_fit (x ∷ floats) held = (to_bits-lt binary64 x held.0, bits_fit floats held.1)
+
+-- ---- block by block
+
+abbrev text : List Float → List ℕ
+text xs = raw_text 8 (bits xs)
+
+block_at : (size k i : ℕ) (xs d : List Float) → i < k → get_or (first_chunks size k xs) i d ≡ take size (drop (i * size) xs)
+block_at size zero i xs d h = absurd (omega arith)
+block_at size (suc k) zero xs d h = let e : zero * size ≡ 0 = omega arith in rw e
+block_at size (suc k) (suc i) xs d h =
+    let e : suc i * size ≡ size + i * size = omega (arith, suc-mul i size) in
+    block_at size k i (drop size xs) d (omega arith) ∙ ap (take size) (drop-drop (i * size) size xs ∙ ap (λ n. drop n xs) (sym e))
+
+-- the texts of one block more
+pub block_more : (xs : List Float) (count i : ℕ) (d : List Float) (blocks : List (List Float)) (start so_far next : List ℕ) → blocks ≡ first_chunks 64 count xs
+    → i < count → so_far ≡ start ++ text (take (64 * i) xs) → next ≡ so_far ++ text (get_or blocks i d) → next ≡ start ++ text (take (64 * (i + 1)) xs)
+block_more xs count i d blocks start so_far next are here before after =
+    let at : ℕ = 64 * i in
+    let block : get_or blocks i d ≡ take 64 (drop at xs) =
+    ap (λ ys. get_or ys i d) are ∙ block_at 64 count i xs d here ∙ ap (λ n. take 64 (drop n xs)) (omega arith) in
+    let more : take (64 * (i + 1)) xs ≡ take at xs ++ get_or blocks i d =
+    ap (λ n. take n xs) (omega arith) ∙ take-add at 64 xs ∙ ap (λ ys. take at xs ++ ys) (sym block) in
+    after ∙ ap (λ front. front ++ text (get_or blocks i d)) before
+    ∙ append_assoc start (text (take at xs)) (text (get_or blocks i d))
+    ∙ ap (λ behind. start ++ behind) (sym (bits_join (take at xs) (get_or blocks i d)) ∙ ap text (sym more))

@@ -1,2 +1,3 @@
+mod NumberLemmas
 pub mod FloatLemmas
 pub mod DirectLemmas

@@ -1,7 +1,8 @@
 //! Writing the column of a slice of 8-byte floats without a copy of it, where its numbers keep their whole width.
-ghost use Rattle.std.specs.Prelude.{◌≡◌, ◌+◌, ◌*◌, ◌^◌, ◌<◌, ◌≤◌, ◌∷◌, ◌++◌, pos, length, map, All, to_bits, vec_len};
+ghost use Rattle.std.specs.Prelude.{◌≡◌, ◌+◌, ◌*◌, ◌^◌, ◌<◌, ◌≤◌, ◌∷◌, ◌++◌, pos, length, map, take, drop, All};
+ghost use Rattle.std.specs.Prelude.{to_bits, vec_len};
 ghost use Rattle.std.specs.Prelude.{vec_capacity, IsTrue, OnOk, IfErr, OnErr};
-ghost use Rattle.std.specs.Float.{binary64};
+ghost use Rattle.std.specs.Float.{binary64, NotNan};
 ghost use Rattle.bitcode_memory.specs.LittleEndian.{raw_text};
 ghost use Rattle.bitcode_columns.specs.IntColumn.{int_text};
 
@@ -17,6 +18,9 @@ use std::simd::prelude::*;
 
 // Numbers that lie so far apart take eight bytes each.
 const FAR: u64 = 0x1_0000_0000;
+
+// So many floats are a block.
+const BLOCK: usize = 64;
 
 // The bits of each float have eight bytes. It does nothing; its contract is for proofs.
 fn known_bits(floats: &[f64])
@@ -55,7 +59,10 @@ fn text_of_four(floats: f64x4) -> [u8; 32]
 // Appends the bytes of the bits of each float, one by one. The caller must have reserved the room.
 fn push_each(floats: &[f64], mut out: Vec<u8>) -> Vec<u8>
     requires { vec_len out + 8 * length floats.now ≤ vec_capacity out }
-    ensures { result.items ≡ out.items ++ raw_text 8 (map (λ x. to_bits binary64 x) floats.now) }
+    ensures written { result.items ≡ out.items ++ raw_text 8
+        (map (λ x. to_bits binary64 x) floats.now) }
+    ensures len { vec_len result ≡ vec_len out + 8 * length floats.now }
+    ensures capacity { vec_capacity result ≡ vec_capacity out }
 {
     for float in floats {
         f64_to_bits_with_nan(*float).push(&mut out);
@@ -65,7 +72,7 @@ fn push_each(floats: &[f64], mut out: Vec<u8>) -> Vec<u8>
 
 // Appends the bytes of the bits of each float, four at a time. The caller must have reserved the room. The list is
 // handed over and given back, so that its length is kept in a register.
-fn push_all(floats: &[f64], mut out: Vec<u8>) -> Vec<u8>
+fn push_fours(floats: &[f64], mut out: Vec<u8>) -> Vec<u8>
     requires { vec_len out + 8 * length floats.now ≤ vec_capacity out }
     ensures { result.items ≡ out.items ++ raw_text 8 (map (λ x. to_bits binary64 x) floats.now) }
 {
@@ -77,6 +84,94 @@ fn push_all(floats: &[f64], mut out: Vec<u8>) -> Vec<u8>
     let behind = 4 * blocks;
     let (_, rest) = floats.split_at(behind);
     push_each(rest, out)
+}
+
+// Whether no float of these is a NaN.
+#[inline(always)]
+fn are_numbers(first: f64x4, second: f64x4, third: f64x4, fourth: f64x4) -> bool
+    requires first { length first ≡ 4 }
+    requires second { length second ≡ 4 }
+    requires third { length third ≡ 4 }
+    requires fourth { length fourth ≡ 4 }
+    ensures { IsTrue result → All NotNan (first ++ second ++ third ++ fourth) }
+{
+    let front = first.simd_ne(first) | second.simd_ne(second);
+    let back = third.simd_ne(third) | fourth.simd_ne(fourth);
+    let is_nan = front | back;
+    !is_nan.any()
+}
+
+// The four floats from a place on.
+#[inline(always)]
+fn four_at(floats: &[f64], at: usize) -> f64x4
+    requires { at + 4 ≤ length floats.now }
+    ensures items { result ≡ take 4 (drop at floats.now) }
+    ensures len { length result ≡ 4 }
+{
+    f64x4::from_slice(&floats[at..])
+}
+
+// Whether no float of a block is a NaN.
+fn is_block_of_numbers(floats: &[f64; BLOCK]) -> bool
+    ensures { IsTrue result → All NotNan floats.now }
+{
+    for sixteen in 0..BLOCK / 16 {
+        let at = 16 * sixteen;
+        let first = four_at(floats, at);
+        let second = four_at(floats, at + 4);
+        let third = four_at(floats, at + 8);
+        let fourth = four_at(floats, at + 12);
+        if !are_numbers(first, second, third, fourth) {
+            return false;
+        }
+    }
+    true
+}
+
+// Appends the bytes of the bits of a block of floats. The caller must have reserved the room.
+//
+// The loop is over a copy of the block, which no write to the list can change. So the compiler makes one copy, from the
+// block to the list.
+fn push_numbers(floats: &[f64; BLOCK], mut out: Vec<u8>) -> Vec<u8>
+    requires numbers { All NotNan floats.now }
+    requires room { vec_len out + 512 ≤ vec_capacity out }
+    ensures written { result.items ≡ out.items ++ raw_text 8
+        (map (λ x. to_bits binary64 x) floats.now) }
+    ensures len { vec_len result ≡ vec_len out + 512 }
+    ensures capacity { vec_capacity result ≡ vec_capacity out }
+{
+    let copy = *floats;
+    for float in &copy {
+        float.to_bits().push(&mut out);
+    }
+    out
+}
+
+// Appends the bytes of the bits of a block of floats, with or without a NaN. The caller must have reserved the room.
+fn push_block(floats: &[f64; BLOCK], out: Vec<u8>) -> Vec<u8>
+    requires { vec_len out + 512 ≤ vec_capacity out }
+    ensures written { result.items ≡ out.items ++ raw_text 8
+        (map (λ x. to_bits binary64 x) floats.now) }
+    ensures len { vec_len result ≡ vec_len out + 512 }
+    ensures capacity { vec_capacity result ≡ vec_capacity out }
+{
+    if is_block_of_numbers(floats) {
+        push_numbers(floats, out)
+    } else {
+        push_each(floats, out)
+    }
+}
+
+// Appends the bytes of the bits of each float, block by block. The caller must have reserved the room.
+fn push_all(floats: &[f64], mut out: Vec<u8>) -> Vec<u8>
+    requires { vec_len out + 8 * length floats.now ≤ vec_capacity out }
+    ensures { result.items ≡ out.items ++ raw_text 8 (map (λ x. to_bits binary64 x) floats.now) }
+{
+    let (blocks, rest) = floats.as_chunks::<BLOCK>();
+    for block in blocks {
+        out = push_block(block, out);
+    }
+    push_fours(rest, out)
 }
 
 // Appends the tag 0 and the bytes of the bits of each float.

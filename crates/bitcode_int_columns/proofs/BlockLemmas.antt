@@ -1,5 +1,5 @@
 -- Numbers of one width that are written block by block.
-use Rattle.std.proofs.Common.{◌≡◌, ℕ, ◌+◌, ◌*◌, ◌/◌, ◌<◌, ◌≤◌, List, [], ◌++◌, length, map, take, drop, get_or, sym, ap, ◌∙◌, append_assoc, arith, lit≤}
+use Rattle.std.proofs.Common.{◌≡◌, ℕ, ◌+◌, ◌*◌, ◌/◌, ◌<◌, ◌≤◌, List, [], ◌++◌, length, map, take, drop, get_or, refl, sym, ap, ◌∙◌, append_assoc, arith, lit≤}
 use borrow.Rule.Slice.PartMut.{put_mid}
 use Rattle.std.proofs.Math.Nat.{zero-mul, add-mul, mul-le-mul_right, div-mul-le_self}
 use Rattle.std.proofs.Math.Seq.{take-add}
@@ -58,3 +58,7 @@ block_room width size i count before some =
 -- a block has its place for some numbers of each width
 pub some_in_block : (width : ℕ) → IsWidth width → 1 ≤ 1024 / width
 some_in_block = at_width (λ width. 1 ≤ 1024 / width) (lit≤ tt) (lit≤ tt) (lit≤ tt) (lit≤ tt) (lit≤ tt)
+
+-- and has just its size
+pub whole_block : (width : ℕ) → IsWidth width → 1024 / width * width ≡ 1024
+whole_block = at_width (λ width. 1024 / width * width ≡ 1024) refl refl refl refl refl

@@ -10,7 +10,7 @@ ghost use Rattle.bitcode_columns.specs.IntColumn.{halvings, narrow_text, int_lev
 ghost use Rattle.bitcode_columns.specs.Tagged.{tag_of, tagged_text};
 
 use crate::pack_ints::width::{is_bare, is_shifted, plain_width, shifted_width, tag_for};
-use crate::pack_ints::write::{write_column, write_narrow, write_numbers};
+use crate::pack_ints::write::{write_column, write_narrow, write_whole};
 use bitcode_memory::error::{Error, Reason};
 use bitcode_memory::ints::{Int, SizedUInt};
 use bitcode_memory::minmax::bounds;
@@ -61,6 +61,9 @@ fn append_plain<T: Int>(
         ≤ vec_capacity out.old → IsOk result }
 {
     out.push(tag_for(T::width(), narrow))?;
+    if narrow == T::width() && narrow != 1 {
+        return write_whole(entries, out);
+    }
     write_narrow(alloc, entries, T::Unsigned::from_wide(0), narrow, out)
 }
 
@@ -137,8 +140,7 @@ pub(crate) fn append_ints<T: Int>(
         return write_column(alloc, entries, out);
     }
     if is_bare(T::width(), entries.len()) {
-        let base = T::Unsigned::from_wide(0);
-        return write_numbers::<T, T::Unsigned>(entries, base, out);
+        return write_whole(entries, out);
     }
     append_tagged(alloc, entries, out)
 }

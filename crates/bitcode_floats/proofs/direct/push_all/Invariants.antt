@@ -6,7 +6,7 @@ use Rattle.bitcode_floats.proofs.direct.push_all.Given as goal
 
 abbrev pub invariant-loop-block : goal.invariant-loop-block
 invariant-loop-block l = record {
-  written : l.out.items ≡ l.initial.out.items ++ raw_text 8 (map (λ x. to_bits binary64 x) (take (4 * l.block) l.floats));
-  len : vec_len l.out ≡ vec_len l.initial.out + 32 * l.block;
+  written : l.out.items ≡ l.initial.out.items ++ raw_text 8 (map (λ x. to_bits binary64 x) (take (64 * l.block-index) l.floats));
+  len : vec_len l.out ≡ vec_len l.initial.out + 512 * l.block-index;
   capacity : vec_capacity l.out ≡ vec_capacity l.initial.out;
 }

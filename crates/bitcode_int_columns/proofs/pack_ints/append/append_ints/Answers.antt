@@ -1,8 +1,8 @@
-use Rattle.std.proofs.Common.{◌≡◌, ◌∙◌, ◌++◌, ◌||◌, ◌&&◌, eqb, map, ap, sym, subst, true, false, inl, inr, arith}
+use Rattle.std.proofs.Common.{◌≡◌, ◌∙◌, ◌++◌, ◌||◌, ◌&&◌, eqb, map, refl, ap, sym, subst, true, false, inl, inr, arith}
 use Rattle.std.proofs.lemmas.Bool.{true≢false}
 use Rattle.std.proofs.lemmas.List.{length-map}
 use Rattle.std.proofs.lemmas.Result.{on_ok_weaker}
-use Rattle.bitcode_int_columns.proofs.AppendLemmas.{on_ok_both, no_base, int_text_bytes, int_text_bare, int_text_tagged, raw_residues, bare_test}
+use Rattle.bitcode_int_columns.proofs.AppendLemmas.{on_ok_both, int_text_bytes, int_text_bare, int_text_tagged, raw_residues, bare_test}
 use Rattle.bitcode_int_columns.proofs.RoomLemmas.{numbers_width_bytes, numbers_width_tagged}
 use Rattle.bitcode_int_columns.proofs.pack_ints.append.append_ints.Goals as goal
 
@@ -14,12 +14,12 @@ returns-then-width-eq1-clause-written g c =
 
 pub returns-then-is_bare-clause-written : goal.returns-then-is_bare-clause-written
 returns-then-is_bare-clause-written g c =
-    on_ok_both c.write_numbers.result
+    on_ok_both c.write_whole.result
     (λ written numbers. written ∙ ap (λ text. c.args.out.now.items ++ text)
-    (raw_residues _ g.T.Int.width _ g.T.Int.signed g.T.Int.number c.args.entries.now g.met.T.Int.unsigned_law (no_base _ _ c.from_wide-base.ensures) numbers
+    (raw_residues g.T.Int.width g.T.Int.width 0 g.T.Int.signed g.T.Int.number c.args.entries.now refl refl numbers
     ∙ sym (int_text_bare g.T.Int.width (map g.T.Int.number c.args.entries.now) (λ one. c.if-width-eq1.false (c.width.ensures ∙ one))
     (bare_test g.T.Int.number c.args.entries.now g.T.Int.width _ _ true c.width-2.ensures c.is_bare.ensures c.if-is_bare.true))))
-    c.write_numbers.ensures.written c.write_numbers.ensures.in_range
+    c.write_whole.ensures.written c.write_whole.ensures.in_range
 
 pub returns-clause-written : goal.returns-clause-written
 returns-clause-written g c =

@@ -1,4 +1,4 @@
-use Rattle.std.proofs.Common.{◌≡◌, ◌+◌, ◌*◌, ◌≤◌, ◌%◌, ◌^◌, ◌++◌, take, drop, map, All, vec_len, vec_capacity}
+use Rattle.std.proofs.Common.{◌≡◌, ◌+◌, ◌*◌, ◌%◌, ◌^◌, ◌++◌, take, drop, map, All, vec_len, vec_capacity}
 use Rattle.bitcode_memory.specs.LittleEndian.{raw_text}
 use Rattle.bitcode_memory.specs.Ints.{IsNumber}
 use Rattle.bitcode_int_columns.specs.Narrowing.{above}
@@ -11,5 +11,5 @@ invariant-loop-block g l = record {
   in_range : All (λ e. IsNumber g.T.Int.width g.T.Int.signed (g.T.Int.number e)) (take (l._block * l.in_block) l.entries);
   rest : l.rest ≡ drop (l._block * l.in_block) l.entries;
   len : vec_len l.out ≡ vec_len l.initial.out + l._block * l.in_block * g.N.SizedUInt.width;
-  capacity : vec_capacity l.initial.out ≤ vec_capacity l.out;
+  capacity : vec_capacity l.out ≡ vec_capacity l.initial.out;
 }
