@@ -37,7 +37,7 @@ pub use bitcode_derive::whole::{
     decode, decode_front, decode_front_strict, decode_strict, decode_within, encode, encode_into,
     invalid_enum_variant,
 };
-pub use bitcode_float_columns::split::{pack_f32s, unpack_f32s};
+pub use bitcode_float_columns::split::{SplitBits, pack_f32s, unpack_f32s};
 pub use bitcode_floats::float32::{F32Decoder, F32Encoder};
 pub use bitcode_floats::float64::{F64Decoder, F64Encoder};
 pub use bitcode_int_columns::pack_ints::{pack_ints, unpack_ints};
