@@ -3,6 +3,7 @@ ghost use Rattle.std.specs.Prelude.{◌≡◌};
 ghost use Rattle.bitcode.specs.ByHand.{data_as, field_alike, pair_alike, refl};
 
 use crate::hurry::Hurry;
+use crate::hurry_of1::HurryOf1;
 use crate::job::{Job, JobOf1, JobOf2};
 use crate::state::State;
 use crate::state_of1::StateOf1;
@@ -19,12 +20,12 @@ use std::collections::BTreeMap;
 #[derive(Debug, PartialEq, Drop)]
 pub struct Queue {
     pub jobs: Vec<Job>,
-    pub last: Option<Job>,
+    pub last: Option<Hurry>,
     pub states: BTreeMap<u32, State>,
     pub hurry: Hurry,
 }
 
-type Parts = (Vec<Job>, Option<Job>, BTreeMap<u32, State>, Hurry);
+type Parts = (Vec<Job>, Option<Hurry>, BTreeMap<u32, State>, Hurry);
 
 impl Shaped for Queue {
     ghost data = { data_as (λ t. (t.jobs, t.last, t.states, t.hurry))
@@ -64,11 +65,11 @@ impl HasField<0> for Queue {
 }
 
 impl HasField<1> for Queue {
-    type Field = Option<Job>;
+    type Field = Option<Hurry>;
 
     ghost field = { λ t. t.last };
 
-    fn field(&self) -> &Option<Job> {
+    fn field(&self) -> &Option<Hurry> {
         &self.last
     }
 }
@@ -93,7 +94,7 @@ impl HasField<3> for Queue {
     }
 }
 
-type Fields = <((Vec<Job>, Option<Job>), (BTreeMap<u32, State>, Hurry)) as HasEncoder>::Encoder;
+type Fields = <((Vec<Job>, Option<Hurry>), (BTreeMap<u32, State>, Hurry)) as HasEncoder>::Encoder;
 
 impl InFields<Fields> for Queue {
     type Numbers = ((Nth<0>, Nth<1>), (Nth<2>, Nth<3>));
@@ -119,19 +120,18 @@ impl<'a> HasDecoder<'a> for Queue {
 impl DecodeOwned for Queue {}
 
 /// `Queue` as it was in version 2.
-pub type QueueOf2 = (Vec<JobOf2>, Option<JobOf2>, BTreeMap<u32, StateOf2>, Hurry);
+pub type QueueOf2 = (Vec<JobOf2>, Option<Hurry>, BTreeMap<u32, StateOf2>, Hurry);
 
 impl Earlier<2> for Queue {
     type Before = QueueOf2;
 
-    ghost is_upgrade = { λ b t. (⟦<Vec<Job> as Earlier<2>>⟧.is_upgrade b.0 t.jobs)
-        × (⟦<Option<Job> as Earlier<2>>⟧.is_upgrade b.1 t.last)
+    ghost is_upgrade = { λ b t. (⟦<Vec<Job> as Earlier<2>>⟧.is_upgrade b.0 t.jobs) × (t.last ≡ b.1)
         × (⟦<BTreeMap<u32, State> as Earlier<2>>⟧.is_upgrade b.2 t.states) × (t.hurry ≡ b.3) };
 
     fn upgrade(alloc: Global, (jobs, last, states, hurry): QueueOf2) -> Result<Self, Error> {
         Ok(Queue {
             jobs: <Vec<Job> as Earlier<2>>::upgrade(alloc, jobs)?,
-            last: <Option<Job> as Earlier<2>>::upgrade(alloc, last)?,
+            last,
             states: <BTreeMap<u32, State> as Earlier<2>>::upgrade(alloc, states)?,
             hurry,
         })
@@ -164,7 +164,7 @@ impl<'a> ReadsVersions<'a, Queue> for QueueVersion2 {
 }
 
 /// `Queue` as it was in version 1.
-pub type QueueOf1 = (Vec<JobOf1>, Option<JobOf1>, BTreeMap<u32, StateOf1>);
+pub type QueueOf1 = (Vec<JobOf1>, Option<HurryOf1>, BTreeMap<u32, StateOf1>);
 
 impl Earlier<1> for Queue {
     ghost use Rattle.bitcode_changed_types.specs.declared.hurry.Hurry.{Hurry};
@@ -172,14 +172,14 @@ impl Earlier<1> for Queue {
     type Before = QueueOf1;
 
     ghost is_upgrade = { λ b t. (⟦<Vec<Job> as Earlier<1>>⟧.is_upgrade b.0 t.jobs)
-        × (⟦<Option<Job> as Earlier<1>>⟧.is_upgrade b.1 t.last)
+        × (⟦<Option<Hurry> as Earlier<1>>⟧.is_upgrade b.1 t.last)
         × (⟦<BTreeMap<u32, State> as Earlier<1>>⟧.is_upgrade b.2 t.states)
         × (t.hurry ≡ Hurry.High) };
 
     fn upgrade(alloc: Global, (jobs, last, states): QueueOf1) -> Result<Self, Error> {
         Ok(Queue {
             jobs: <Vec<Job> as Earlier<1>>::upgrade(alloc, jobs)?,
-            last: <Option<Job> as Earlier<1>>::upgrade(alloc, last)?,
+            last: <Option<Hurry> as Earlier<1>>::upgrade(alloc, last)?,
             states: <BTreeMap<u32, State> as Earlier<1>>::upgrade(alloc, states)?,
             hurry: Hurry::High,
         })

@@ -5,7 +5,7 @@ ghost use Rattle.bitcode.specs.ByHand.{columns_in, each_variant, enum_data, is_v
 ghost use Rattle.bitcode.specs.ByHand.{payload_and, payloads_in, refl};
 ghost use Rattle.bitcode_changed_types.specs.declared.state.State.{State};
 
-use crate::job::Job;
+use crate::hurry::Hurry;
 use crate::state_of1::StateOf1;
 use crate::state_of2::StateOf2;
 use bitcode::own::{
@@ -24,14 +24,14 @@ pub enum State {
     Waiting,
     Running(u32),
     Failed { code: u16, is_final: bool },
-    Stored(Job),
+    Stored(Hurry),
 }
 
 impl Enum for State {
     ghost each = { each_variant
         (payload_and ⟦<() as Shaped>⟧.data
         (payload_and ⟦<u32 as Shaped>⟧.data
-        (payload_and ⟦<(u16, bool) as Shaped>⟧.data (last_payload ⟦<Job as Shaped>⟧.data)))) refl
+        (payload_and ⟦<(u16, bool) as Shaped>⟧.data (last_payload ⟦<Hurry as Shaped>⟧.data)))) refl
         (λ at. elim [
           | State.Waiting ↦ at 0 tt
           | State.Running a ↦ at 1 a
@@ -78,7 +78,7 @@ impl EnumOf<4> for State {
     ghost makes_variants = { λ d t made. made };
 }
 
-impl Variants4<At<0>, At<4>, (), u32, (u16, bool), Job> for State {
+impl Variants4<At<0>, At<4>, (), u32, (u16, bool), Hurry> for State {
     ghost values = { (
       λ p. State.Waiting,
       λ p. State.Running p,
@@ -87,7 +87,7 @@ impl Variants4<At<0>, At<4>, (), u32, (u16, bool), Job> for State {
           State.Stored p,
     ) };
 
-    fn of_payload(payload: OneOf4<(), u32, (u16, bool), Job>) -> Self
+    fn of_payload(payload: OneOf4<(), u32, (u16, bool), Hurry>) -> Self
         ensures { result ≡ of_one_of_4 (λ p. State.Waiting) (λ p. State.Running p)
             (λ p. State.Failed p.0 p.1) (λ p. State.Stored p) payload }
     {
@@ -110,7 +110,7 @@ impl Variants4<At<0>, At<4>, (), u32, (u16, bool), Job> for State {
     ) };
 }
 
-type Columns = EncodersOf4<At<0>, (), u32, (u16, bool), Job>;
+type Columns = EncodersOf4<At<0>, (), u32, (u16, bool), Hurry>;
 
 impl WritesVariants<At<0>, At<4>, Columns> for State {
     fn write(&self, to: &mut Columns) -> Result<(), Error> {
@@ -128,7 +128,7 @@ impl WritesVariants<At<0>, At<4>, Columns> for State {
     ghost are_columns = { λ c. (refl, refl) };
 }
 
-type Decoders<'a> = DecodersOf4<'a, At<0>, (), u32, (u16, bool), Job>;
+type Decoders<'a> = DecodersOf4<'a, At<0>, (), u32, (u16, bool), Hurry>;
 
 /// The columns of the payloads of `State`.
 #[derive(Drop)]
