@@ -40,9 +40,14 @@ def below(crate):
     return names
 
 
-def words_of(crate):
+def root_of(crate):
+    """The first file of the crate, which is a program or a library."""
+    return "src/main.rt" if os.path.isfile(f"crates/{crate}/src/main.rt") else "src/lib.rt"
+
+
+def words_of(crate, root="src/lib.rt"):
     """What the checker is told of the crate: what was proved of those below, by the gate, and of the toolchain's."""
-    words = ["--crate-name", crate, "src/lib.rt", "--extern", f"std={KIT}/rlibs/std.rlib"]
+    words = ["--crate-name", crate, root, "--extern", f"std={KIT}/rlibs/std.rlib"]
     words += ["-L", f"dependency={KIT}/rlibs"]
     for name in below(crate):
         rlibs = os.path.abspath(f"crates/{name}/out/rlib") if name in crates else f"{KIT}/rlibs"
@@ -70,7 +75,7 @@ def verdicts(mutants, kept):
         has_impl = any(mutant.kind == "impl" for mutant in stood)
         words = [] if has_impl else [word for mutant in stood for word in ("--only", mutant.broken)]
         ran = subprocess.run(
-            [f"{KIT}/bin/rattle", "check", *words_of(crate), "--incremental", kept, *words],
+            [f"{KIT}/bin/rattle", "check", *words_of(crate, root_of(crate)), "--incremental", kept, *words],
             cwd=work, stdin=subprocess.DEVNULL,
             stdout=subprocess.PIPE, stderr=subprocess.STDOUT, text=True, errors="replace",
         )

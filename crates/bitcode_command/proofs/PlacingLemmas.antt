@@ -1,5 +1,5 @@
 -- One column more stands behind the others.
-use Rattle.std.proofs.Common.{◌≡◌, ℕ, ◌+◌, arith, true, List, [], ◌∷◌, ◌++◌, refl, sym, ◌∙◌}
+use Rattle.std.proofs.Common.{◌≡◌, ℕ, ◌+◌, arith, true, List, [], ◌∷◌, ◌++◌, sym}
 use Rattle.std.proofs.lemmas.Bool.{eq-eqb, eqb-true, and_from, and_parts}
 use Rattle.bitcode_command.specs.Placing.{stand_from}
 use Rattle.bitcode_command.specs.declared.column.Column.{Column}

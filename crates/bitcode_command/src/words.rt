@@ -16,156 +16,203 @@ Statuses:
 // How many nodes a value may have if nothing else is said.
 const LIMIT: &str = "16777216";
 
+// What a word of a call is.
+#[derive(Clone, Copy)]
+enum WordKind {
+    /// The file that is read.
+    File,
+    /// A word that is there or not.
+    Flag,
+    /// A text behind the word, which is called so.
+    Text(&'static str),
+    /// The same, which must be there.
+    Needed(&'static str),
+    /// A number of nodes.
+    Nodes,
+    /// The version of a type.
+    Version,
+}
+
+// A word of a call.
+#[derive(Clone, Copy)]
+struct Word {
+    name: &'static str,
+    short: Option<char>,
+    kind: WordKind,
+    help: &'static str,
+}
+
+const FILE: Word = Word {
+    name: "file",
+    short: None,
+    kind: WordKind::File,
+    help: "The file to read",
+};
+
+const OUTPUT: Word = Word {
+    name: "output",
+    short: Some('o'),
+    kind: WordKind::Text("FILE"),
+    help: "The file to write, in the place of standard output",
+};
+
+const SCHEMA: Word = Word {
+    name: "schema",
+    short: Some('s'),
+    kind: WordKind::Needed("SCHEMA"),
+    help: "The file of the type, from `scripts/new_type --schema`",
+};
+
+const SEALED: Word = Word {
+    name: "sealed",
+    short: None,
+    kind: WordKind::Flag,
+    help: "The file is sealed: tell of the seal",
+};
+
+const MANY: Word = Word {
+    name: "many",
+    short: None,
+    kind: WordKind::Flag,
+    help: "The file has sealed values, one behind the other",
+};
+
+const SECOND: Word = Word {
+    name: "second",
+    short: None,
+    kind: WordKind::Flag,
+    help: "The second format, which has recursive types",
+};
+
+const NODES: Word = Word {
+    name: "limit",
+    short: None,
+    kind: WordKind::Nodes,
+    help: "How many nodes a value may have",
+};
+
+const JSON: Word = Word {
+    name: "json",
+    short: None,
+    kind: WordKind::Flag,
+    help: "Write the table as JSON",
+};
+
+const SVG: Word = Word {
+    name: "svg",
+    short: None,
+    kind: WordKind::Text("FILE"),
+    help: "Write a picture of the columns",
+};
+
+const STRICT: Word = Word {
+    name: "strict",
+    short: None,
+    kind: WordKind::Flag,
+    help: "Accept only the bytes that `encode` writes",
+};
+
+const KIND: Word = Word {
+    name: "kind",
+    short: None,
+    kind: WordKind::Needed("KIND"),
+    help: "The number of the type, such as 0x52454353",
+};
+
+const VERSION: Word = Word {
+    name: "version",
+    short: None,
+    kind: WordKind::Version,
+    help: "The version of the type",
+};
+
 /// The command and its calls.
 pub fn command<'a>(alloc: Global) -> Result<Command<'a>, AllocError> {
+    let mut calls = Vec::new(alloc);
+    calls.push(columns(alloc)?)?;
+    calls.push(decode(alloc)?)?;
+    calls.push(encode(alloc)?)?;
+    calls.push(check(alloc)?)?;
+    calls.push(seal(alloc)?)?;
+    calls.push(open(alloc)?)?;
     Command::new(alloc, "bitcode")
         .about("Shows, checks and converts what bitcode encodes.")
         .after_help(STATUSES)
         .subcommand_required(true)
-        .subcommand(columns(alloc)?)?
-        .subcommand(decode(alloc)?)?
-        .subcommand(encode(alloc)?)?
-        .subcommand(check(alloc)?)?
-        .subcommand(seal(alloc)?)?
-        .subcommand(open(alloc)?)
+        .subcommands(calls)
 }
 
-fn file<'a>(alloc: Global) -> Arg<'a> {
-    Arg::new(alloc, "file")
-        .value_name("FILE")
-        .help("The file to read")
+// A call that takes these words.
+fn call<'a>(
+    alloc: Global,
+    name: &'a str,
+    about: &'a str,
+    words: &[Word],
+) -> Result<Command<'a>, AllocError> {
+    let mut command = Command::new(alloc, name).about(about);
+    for word in words {
+        command = command.arg(arg(alloc, *word))?;
+    }
+    Ok(command)
 }
 
-fn output<'a>(alloc: Global) -> Arg<'a> {
-    Arg::new(alloc, "output")
-        .short('o')
-        .long("output")
-        .value_name("FILE")
-        .help("The file to write, in the place of standard output")
-}
-
-fn schema<'a>(alloc: Global) -> Arg<'a> {
-    Arg::new(alloc, "schema")
-        .short('s')
-        .long("schema")
-        .value_name("SCHEMA")
-        .help("The file of the type, from `scripts/new_type --schema`")
-}
-
-fn flag<'a>(alloc: Global, name: &'a str, help: &'a str) -> Arg<'a> {
-    Arg::new(alloc, name)
-        .long(name)
-        .action(ArgAction::SetTrue)
-        .help(help)
-}
-
-fn sealed<'a>(alloc: Global) -> Arg<'a> {
-    flag(alloc, "sealed", "The file is sealed: tell of the seal")
-}
-
-fn many<'a>(alloc: Global) -> Arg<'a> {
-    flag(
-        alloc,
-        "many",
-        "The file has sealed values, one behind the other",
-    )
-}
-
-fn second<'a>(alloc: Global) -> Arg<'a> {
-    flag(
-        alloc,
-        "second",
-        "The second format, which has recursive types",
-    )
-}
-
-fn limit<'a>(alloc: Global) -> Arg<'a> {
-    Arg::new(alloc, "limit")
-        .long("limit")
-        .value_name("NODES")
-        .value_parser(value_parser!(u64))
-        .default_value(LIMIT)
-        .help("How many nodes a value may have")
+// A word, as the reader of words knows it.
+fn arg<'a>(alloc: Global, word: Word) -> Arg<'a> {
+    let mut arg = Arg::new(alloc, word.name).help(word.help);
+    if let Some(short) = word.short {
+        arg = arg.short(short);
+    }
+    match word.kind {
+        WordKind::File => arg.value_name("FILE"),
+        WordKind::Flag => arg.long(word.name).action(ArgAction::SetTrue),
+        WordKind::Text(value) => arg.long(word.name).value_name(value),
+        WordKind::Needed(value) => arg.long(word.name).value_name(value).required(true),
+        WordKind::Nodes => arg
+            .long(word.name)
+            .value_name("NODES")
+            .value_parser(value_parser!(u64))
+            .default_value(LIMIT),
+        WordKind::Version => arg
+            .long(word.name)
+            .value_name("VERSION")
+            .value_parser(value_parser!(u16))
+            .required(true),
+    }
 }
 
 fn columns<'a>(alloc: Global) -> Result<Command<'a>, AllocError> {
-    let svg = Arg::new(alloc, "svg")
-        .long("svg")
-        .value_name("FILE")
-        .help("Write a picture of the columns");
-    Command::new(alloc, "columns")
-        .about("Shows where each column is, and how it is packed")
-        .arg(file(alloc))?
-        .arg(schema(alloc).required(true))?
-        .arg(sealed(alloc))?
-        .arg(many(alloc))?
-        .arg(flag(alloc, "json", "Write the table as JSON"))?
-        .arg(svg)
+    let about = "Shows where each column is, and how it is packed";
+    call(
+        alloc,
+        "columns",
+        about,
+        &[FILE, SCHEMA, SEALED, MANY, JSON, SVG],
+    )
 }
 
 fn decode<'a>(alloc: Global) -> Result<Command<'a>, AllocError> {
-    Command::new(alloc, "decode")
-        .about("Writes the value as JSON")
-        .arg(file(alloc))?
-        .arg(schema(alloc).required(true))?
-        .arg(output(alloc))?
-        .arg(second(alloc))?
-        .arg(limit(alloc))?
-        .arg(sealed(alloc))?
-        .arg(many(alloc))
+    let words = [FILE, SCHEMA, OUTPUT, SECOND, NODES, SEALED, MANY];
+    call(alloc, "decode", "Writes the value as JSON", &words)
 }
 
 fn encode<'a>(alloc: Global) -> Result<Command<'a>, AllocError> {
-    Command::new(alloc, "encode")
-        .about("Encodes a value that is given as JSON")
-        .arg(file(alloc))?
-        .arg(schema(alloc).required(true))?
-        .arg(output(alloc))?
-        .arg(second(alloc))
+    let about = "Encodes a value that is given as JSON";
+    call(alloc, "encode", about, &[FILE, SCHEMA, OUTPUT, SECOND])
 }
 
 fn check<'a>(alloc: Global) -> Result<Command<'a>, AllocError> {
-    Command::new(alloc, "check")
-        .about(
-            "Tells in a line whether the file has a value of the type, or which column is at fault",
-        )
-        .arg(file(alloc))?
-        .arg(schema(alloc).required(true))?
-        .arg(second(alloc))?
-        .arg(limit(alloc))?
-        .arg(sealed(alloc))?
-        .arg(many(alloc))?
-        .arg(flag(
-            alloc,
-            "strict",
-            "Accept only the bytes that `encode` writes",
-        ))
+    let about =
+        "Tells in a line whether the file has a value of the type, or which column is at fault";
+    let words = [FILE, SCHEMA, SECOND, NODES, SEALED, MANY, STRICT];
+    call(alloc, "check", about, &words)
 }
 
 fn seal<'a>(alloc: Global) -> Result<Command<'a>, AllocError> {
-    let kind = Arg::new(alloc, "kind")
-        .long("kind")
-        .value_name("KIND")
-        .required(true)
-        .help("The number of the type, such as 0x52454353");
-    let version = Arg::new(alloc, "version")
-        .long("version")
-        .value_name("VERSION")
-        .value_parser(value_parser!(u16))
-        .required(true)
-        .help("The version of the type");
-    Command::new(alloc, "seal")
-        .about("Puts a header and a checksum around the bytes")
-        .arg(file(alloc))?
-        .arg(output(alloc))?
-        .arg(kind)?
-        .arg(version)
+    let about = "Puts a header and a checksum around the bytes";
+    call(alloc, "seal", about, &[FILE, OUTPUT, KIND, VERSION])
 }
 
 fn open<'a>(alloc: Global) -> Result<Command<'a>, AllocError> {
-    Command::new(alloc, "open")
-        .about("Checks the header and the checksum, and writes the bytes between them")
-        .arg(file(alloc))?
-        .arg(output(alloc))?
-        .arg(many(alloc))
+    let about = "Checks the header and the checksum, and writes the bytes between them";
+    call(alloc, "open", about, &[FILE, OUTPUT, MANY])
 }
