@@ -89,6 +89,7 @@ def large(program, work):
     rows = [
         (["check", "--schema", units], many, 0, ""),
         (["columns", "--schema", units], many, 0, ""),
+        (["decode", "--schema", units], many, 1, "bitcode: too many nodes\n"),
         (["decode", "--schema", units, "--second", "--limit", "1000"], fewer, 1, "bitcode: too many nodes\n"),
         (["decode", "--schema", deep, "--second"], b"\x01" * 129 + b"\x00", 1,
          f"bitcode: JSON: at {'[0]' * 127}: nested deeper than 127 lists and objects\n"),
