@@ -2,5 +2,6 @@
 mod calls;
 mod columns;
 mod schemas;
+mod types_and_schemas;
 mod values;
 mod values_by_schema;
