@@ -99,6 +99,16 @@ impl$owned DecodeOwned for $name {}
 """
 
 
+def law_of_shape(encoder):
+    """That the empty columns of an encoder are those of its type, as a term: of a pair's encoder, by those of both
+    parts, since a ghost member cannot cite a law of another crate's `impl`."""
+    found = re.fullmatch(r"TupleEncoder<(\w+), (.+)>", encoder)
+    if not found:
+        return f"{encoder}.of_shape"
+    second = law_of_shape(found[2])
+    return f"both_of_shape {found[1]}.of_shape " + (f"({second})" if " " in second else second)
+
+
 class Generic(Numbered):
     """The parts of the file of an enum with type parameters."""
 
@@ -141,10 +151,14 @@ class Generic(Numbered):
     def columns_alike(self, encoders, place):
         """That the columns in that place are those of the variants."""
         found = "refl"
-        for encoder, type, name in reversed(list(zip(encoders, self.types, PLACES))):
-            trait = f"⟦<{encoder} as Encoder<{type}>>⟧" if "<" in encoder else encoder
-            found = f"columns_and ({trait}.of_shape {place}.{name}) " + (found if found == "refl" else f"({found})")
+        for encoder, name in reversed(list(zip(encoders, PLACES))):
+            found = f"columns_and ({law_of_shape(encoder)} {place}.{name}) " + (found if found == "refl" else f"({found})")
         return found
+
+    def laws(self):
+        """The laws that the file names."""
+        several = any(len(variant.fields) > 1 for variant in self.enum.variants)
+        return {"columns_and", "both_of_shape"} if several else {"columns_and"}
 
     def coders(self):
         """What is written of the coders that are parameters."""
@@ -182,6 +196,6 @@ class Generic(Numbered):
         row |= {"simple": enum.name, "count": count, "input": self.input, "arguments": arguments(enum)}
         row |= {"has_encoder": bounds(enum, "HasEncoder"), "owned": bounds(enum, "DecodeOwned")}
         row |= {"has_decoder": bounds(enum, f"HasDecoder<{self.input}>", self.input)}
-        opening = Template(OPENING).substitute(self.opening(uses, {"columns_and"}))
+        opening = Template(OPENING).substitute(self.opening(uses, self.laws()))
         variants = Template(VARIANTS).substitute(self.of_group(self.groups[0]))
         return opening + variants + Template(COLUMNS + PAYLOADS).substitute(row | self.coders())

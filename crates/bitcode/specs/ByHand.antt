@@ -34,6 +34,7 @@ pub use Rattle.bitcode_tuples.specs.FieldLaws.{field_alike, pair_alike}
 pub use Rattle.bitcode_structs.specs.FieldListings.{lists_both}
 -- The columns that encoders hold, the data that decoders hold, and what containers are made of:
 pub use Rattle.bitcode_coder.specs.Columns.{no_columns, two}
+pub use Rattle.bitcode_tuples.specs.PairLaws.{both_of_shape}
 pub use Rattle.bitcode_tuples.specs.Pairs.{pairs_of}
 pub use Rattle.bitcode_parts.specs.Payloads.{choices_of}
 pub use Rattle.bitcode_parts.specs.Variants.{variant_room, variants_left, variants_owned}
