@@ -31,12 +31,13 @@ WORDS = {
     "docs/GUIDE.md": 3600,
     "docs/PROMISES.md": 4600,
     "docs/PROVING.md": 1050,
+    "docs/SCHEMAS.md": 470,
     "docs/SEALED.md": 1050,
     "docs/SPEED.md": 920,
     "docs/TESTING.md": 1330,
     "docs/TOOLCHAIN.md": 1650,
 }
-WORDS_IN_ALL = 31000
+WORDS_IN_ALL = 31500
 COLUMNS = 120
 HISTORY = "docs/HISTORY.md"
 COUNTED = "docs/TESTING.md"
