@@ -13,6 +13,9 @@ use uuid::Uuid;
 
 const INPUTS: u64 = 5000;
 
+// The first inputs are zeros, from none to so many.
+const ZEROS: u64 = 160;
+
 // So many inputs that were accepted are kept, to change them.
 const KEPT: u64 = 16;
 
@@ -33,9 +36,15 @@ impl Random {
         self.below(most) as u8
     }
 
-    // An input: any bytes, or one that was accepted with a byte changed, cut off or added.
-    fn input(&mut self, alloc: Global, kept: &[Vec<u8>]) -> Result<Vec<u8>, AllocError> {
+    // Input `i`: zeros, any bytes, or one that was accepted with a byte changed, cut off or added.
+    fn input(&mut self, alloc: Global, kept: &[Vec<u8>], i: u64) -> Result<Vec<u8>, AllocError> {
         let mut bytes = Vec::new(alloc);
+        if i < ZEROS {
+            for _zero in 0..i {
+                bytes.push(0)?;
+            }
+            return Ok(bytes);
+        }
         if kept.is_empty() || self.below(3) == 0 {
             for _i in 0..self.below(24) {
                 bytes.push(self.byte())?;
@@ -75,15 +84,20 @@ fn agree(
     let schema = Schema::new(node)?;
     let mut random = Random { state: 11 };
     let mut kept: Vec<Vec<u8>> = Vec::new(alloc);
-    for _i in 0..INPUTS {
-        let bytes = random.input(alloc, &kept)?;
+    for i in 0..INPUTS {
+        let bytes = random.input(alloc, &kept, i)?;
         let found = fault(decode_value(alloc, &schema, &bytes));
         let found_strictly = fault(decode_value_strict(alloc, &schema, &bytes));
         if plain(&bytes) != found || strict(&bytes) != found_strictly {
             return Ok(false);
         }
-        if found == None && (kept.len() as u64) < KEPT {
-            kept.push(bytes)?;
+        if found == None {
+            let place = random.below(KEPT) as usize;
+            if kept.len() < KEPT as usize {
+                kept.push(bytes)?;
+            } else {
+                kept[place] = bytes;
+            }
         }
     }
     Ok(!kept.is_empty())
