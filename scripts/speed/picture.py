@@ -158,7 +158,7 @@ def drawn(run):
     for name, y in rows.items():
         parts += [ring("decode", axis.at(ratio(run, name, 3)), y), disc("ours", axis.at(ratio(run, name, 1)), y)]
     parts += [text(12, y + 4, name.replace("`", "")) for name, y in rows.items()]
-    parts.append(text(12, heading + 4, "Second format, a dynamic Value:", "head"))
+    parts.append(text(12, heading + 4, "Second format:", "head"))
     return "\n".join([*parts, "</svg>", ""])
 
 
@@ -191,7 +191,7 @@ def sentence(run):
     name = next(name for name in run.formats["first"] if name.startswith("records"))
     size = [short(it) for it in run.each(name, SHOWN, 0)]
     return (f"A record of five fields takes {size[0]} bytes in a list of 1,000 (bincode: {size[2]} or {size[3]}). "
-            f"Calls take {span(run, 'first')} as long as in the Rust crate, or {span(run, 'second')} with a dynamic `Value`")
+            f"Calls take {span(run, 'first')} as long as in the Rust crate, or {span(run, 'second')} in the second format")
 
 
 def with_block(page, name, block):
