@@ -1,6 +1,7 @@
 //! The calls of the command.
+use crate::column::Column;
 use crate::failure::Failure;
-use crate::files::{read_bytes, read_text, write_bytes};
+use crate::files::{read_bytes, text_of, write_bytes};
 use crate::format::Format;
 use crate::from_json::from_json;
 use crate::json_text::parse;
@@ -23,8 +24,8 @@ fn types_of(
     words: &ArgMatches<'_>,
 ) -> Result<Types, Failure> {
     let path = words.get_str("schema").unwrap_or("");
-    let text = read_text(rt, Some(path), false)?;
-    match read_schema(rt.alloc(), &text) {
+    let bytes = read_bytes(rt, Some(path), false)?;
+    match read_schema(rt.alloc(), text_of(rt.alloc(), Some(path), &bytes)?) {
         Ok(types) => Ok(types),
         Err(fault) => Err(Failure::of_schema(rt.alloc(), path, fault)),
     }
@@ -64,26 +65,84 @@ fn limit_of(words: &ArgMatches<'_>) -> usize {
     words.get_one::<usize>("limit").unwrap_or(0)
 }
 
+// What a call with a schema is given.
+#[derive(Drop)]
+struct Given {
+    types: Types,
+    format: Format,
+    bytes: Vec<u8>,
+}
+
+// The types, their format and the bytes of the file, read in this order.
+fn read_given(
+    rt: &(impl AllocGlobal + Files + Input + Eprint),
+    words: &ArgMatches<'_>,
+    second: bool,
+    shows: bool,
+) -> Result<Given, Failure> {
+    let types = types_of(rt, words)?;
+    let format = format_of(rt.alloc(), words, &types, second)?;
+    let bytes = read_bytes(rt, words.get_str("file"), shows)?;
+    Ok(Given {
+        types,
+        format,
+        bytes,
+    })
+}
+
+// Tells of the seal on standard output, if there is one.
+fn print_seal(rt: &(impl AllocGlobal + Print), part: &Part<'_>) -> Result<(), Failure> {
+    if let Some(line) = part.line(rt.alloc())? {
+        println!(rt; "{line}")?;
+    }
+    Ok(())
+}
+
+// The same on standard error.
+fn eprint_seal(rt: &(impl AllocGlobal + Eprint), part: &Part<'_>) -> Result<(), Failure> {
+    if let Some(line) = part.line(rt.alloc())? {
+        eprintln!(rt; "{line}")?;
+    }
+    Ok(())
+}
+
 /// Writes values as JSON, each in a line.
 pub fn decode(
     rt: &(impl AllocGlobal + Files + Input + Print + Eprint),
     words: &ArgMatches<'_>,
     shows: bool,
 ) -> Result<(), Failure> {
-    let alloc = rt.alloc();
-    let types = types_of(rt, words)?;
-    let format = format_of(alloc, words, &types, words.get_flag("second"))?;
-    let bytes = read_bytes(rt, words.get_str("file"), shows)?;
-    let mut out = Vec::new(alloc);
-    for part in &parts_of(alloc, words, &bytes)? {
-        if let Some(line) = part.line(alloc)? {
-            eprintln!(rt; "{line}")?;
-        }
-        let value = format.decode(alloc, part.bytes, limit_of(words))?;
-        out = to_json(alloc, &types, &value, out)?;
-        out.push(b'\n')?;
-    }
+    let given = read_given(rt, words, words.get_flag("second"), shows)?;
+    let out = decode_parts(rt, words, &given)?;
     write_bytes(rt, words.get_str("output"), &out)
+}
+
+// The lines of the values.
+fn decode_parts(
+    rt: &(impl AllocGlobal + Eprint),
+    words: &ArgMatches<'_>,
+    given: &Given,
+) -> Result<Vec<u8>, Failure> {
+    let mut out = Vec::new(rt.alloc());
+    for part in &parts_of(rt.alloc(), words, &given.bytes)? {
+        eprint_seal(rt, part)?;
+        out = decode_part(rt.alloc(), given, part.bytes, limit_of(words), out)?;
+    }
+    Ok(out)
+}
+
+// Adds the line of a value.
+fn decode_part(
+    alloc: Global,
+    given: &Given,
+    bytes: &[u8],
+    limit: usize,
+    out: Vec<u8>,
+) -> Result<Vec<u8>, Failure> {
+    let value = given.format.decode(alloc, bytes, limit)?;
+    let mut out = to_json(alloc, &given.types, &value, out)?;
+    out.push(b'\n')?;
+    Ok(out)
 }
 
 /// Encodes a value that is given as JSON.
@@ -92,15 +151,18 @@ pub fn encode(
     words: &ArgMatches<'_>,
     shows: bool,
 ) -> Result<(), Failure> {
-    let alloc = rt.alloc();
-    let types = types_of(rt, words)?;
-    let format = format_of(alloc, words, &types, words.get_flag("second"))?;
-    let text = read_text(rt, words.get_str("file"), shows)?;
-    let mut scratch = Scratch::new(alloc);
-    let json = parse(alloc, &text, &mut scratch)?;
-    let value = from_json(alloc, &types, &json, format.is_second())?;
-    let bytes = format.encode(alloc, &value)?;
+    let given = read_given(rt, words, words.get_flag("second"), shows)?;
+    let text = text_of(rt.alloc(), words.get_str("file"), &given.bytes)?;
+    let bytes = encode_text(rt.alloc(), &given, text)?;
     write_bytes(rt, words.get_str("output"), &bytes)
+}
+
+// The bytes of the value that is given as JSON.
+fn encode_text(alloc: Global, given: &Given, text: &str) -> Result<Vec<u8>, Failure> {
+    let mut scratch = Scratch::new(alloc);
+    let json = parse(alloc, text, &mut scratch)?;
+    let value = from_json(alloc, &given.types, &json, given.format.is_second())?;
+    given.format.encode(alloc, &value)
 }
 
 /// Tells in a line whether the file has a value of the type.
@@ -109,19 +171,26 @@ pub fn check(
     words: &ArgMatches<'_>,
     shows: bool,
 ) -> Result<(), Failure> {
-    let alloc = rt.alloc();
-    let types = types_of(rt, words)?;
-    let format = format_of(alloc, words, &types, words.get_flag("second"))?;
-    let bytes = read_bytes(rt, words.get_str("file"), shows)?;
-    let parts = parts_of(alloc, words, &bytes)?;
-    for part in &parts {
-        if let Some(line) = part.line(alloc)? {
-            println!(rt; "{line}")?;
-        }
-        format.check(alloc, part.bytes, limit_of(words), words.get_flag("strict"))?;
-    }
-    let count = bytes.len();
+    let given = read_given(rt, words, words.get_flag("second"), shows)?;
+    check_parts(rt, words, &given)?;
+    let count = given.bytes.len();
     println!(rt; "ok: {count} bytes")?;
+    Ok(())
+}
+
+// Accepts the values, and tells of the seal of each before it.
+fn check_parts(
+    rt: &(impl AllocGlobal + Print),
+    words: &ArgMatches<'_>,
+    given: &Given,
+) -> Result<(), Failure> {
+    let strict = words.get_flag("strict");
+    for part in &parts_of(rt.alloc(), words, &given.bytes)? {
+        print_seal(rt, part)?;
+        given
+            .format
+            .check(rt.alloc(), part.bytes, limit_of(words), strict)?;
+    }
     Ok(())
 }
 
@@ -131,29 +200,43 @@ pub fn show(
     words: &ArgMatches<'_>,
     shows: bool,
 ) -> Result<(), Failure> {
-    let alloc = rt.alloc();
-    let types = types_of(rt, words)?;
-    let format = format_of(alloc, words, &types, false)?;
-    let bytes = read_bytes(rt, words.get_str("file"), shows)?;
-    let parts = parts_of(alloc, words, &bytes)?;
+    let given = read_given(rt, words, false, shows)?;
+    let parts = parts_of(rt.alloc(), words, &given.bytes)?;
     if parts.len() > 1 && words.get_str("svg").is_some() {
-        return Err(Failure::of_words(alloc, "`--svg` writes a picture of one value"));
+        return Err(Failure::of_words(rt.alloc(), "`--svg` writes a picture of one value"));
     }
     for part in &parts {
-        let found = format.columns(alloc, part.bytes)?;
-        if let Some(path) = words.get_str("svg") {
-            write_bytes(rt, Some(path), picture(alloc, &found)?.as_bytes())?;
-        }
-        if words.get_flag("json") {
-            write_bytes(rt, None, &table_json(alloc, &found)?)?;
-            continue;
-        }
-        if let Some(line) = part.line(alloc)? {
-            println!(rt; "{line}")?;
-        }
-        write_bytes(rt, None, table(alloc, &found)?.as_bytes())?;
+        let found = given.format.columns(rt.alloc(), part.bytes)?;
+        write_picture(rt, words.get_str("svg"), &found)?;
+        show_part(rt, words.get_flag("json"), part, &found)?;
     }
     Ok(())
+}
+
+// Writes the picture of the columns, if one is wanted.
+fn write_picture(
+    rt: &(impl AllocGlobal + Files + Print),
+    path: Option<&str>,
+    found: &[Column],
+) -> Result<(), Failure> {
+    match path {
+        Some(_) => write_bytes(rt, path, picture(rt.alloc(), found)?.as_bytes()),
+        None => Ok(()),
+    }
+}
+
+// Writes the columns of a value, as JSON or as a table below the line of the seal.
+fn show_part(
+    rt: &(impl AllocGlobal + Files + Print),
+    is_json: bool,
+    part: &Part<'_>,
+    found: &[Column],
+) -> Result<(), Failure> {
+    if is_json {
+        return write_bytes(rt, None, &table_json(rt.alloc(), found)?);
+    }
+    print_seal(rt, part)?;
+    write_bytes(rt, None, table(rt.alloc(), found)?.as_bytes())
 }
 
 // The number of a kind, in decimal or behind `0x` in hexadecimal digits.
