@@ -37,7 +37,7 @@ WORDS = {
     "docs/TESTING.md": 1330,
     "docs/TOOLCHAIN.md": 1650,
 }
-WORDS_IN_ALL = 31500
+WORDS_IN_ALL = 31600
 COLUMNS = 120
 HISTORY = "docs/HISTORY.md"
 COUNTED = "docs/TESTING.md"
