@@ -10,12 +10,19 @@ for file in scripts/recursive_types/*.rs; do
   scripts/second_format "$file" "$work/kept/bitcode_recursive_types" >/dev/null || exit 2
 done
 while IFS= read -r file; do
-  cmp -s "$work/kept/$file" "crates/$file" || { echo "second_format: crates/$file is out of date: run scripts/second_format again"; wrong=1; }
+  cmp -s "$work/kept/$file" "crates/$file" || {
+    echo "second_format: crates/$file is out of date: run scripts/second_format again"
+    wrong=1
+  }
 done < <(cd "$work/kept" && find . -type f)
 
 . scripts/libraries.sh
 copy_libraries "$work" || exit 2
-add_program "$work" random_values scripts/recursive_types/values.txt "$(sed -n 's/^bitcode_recursive_types: //p' crates.txt) bitcode_recursive_types anyhow" || exit 2
+below=$(sed -n 's/^bitcode_recursive_types: //p' crates.txt)
+add_program "$work" random_values scripts/recursive_types/values.txt "$below bitcode_recursive_types anyhow" || exit 2
 (cd "$work/crates/random_values" && "$try" --optimized --steps 1000 --seconds 7200 >"$work/log" 2>&1)
-grep -q '^20000 values came back$' "$work/log" && grep -q 'checked: ended status=0' "$work/log" || { grep -m 5 -E 'error|status=|run=' "$work/log" | sed 's/^/second_format: /'; wrong=1; }
+grep -q '^20000 values came back$' "$work/log" && grep -q 'checked: ended status=0' "$work/log" || {
+  grep -m 5 -E 'error|status=|run=' "$work/log" | sed 's/^/second_format: /'
+  wrong=1
+}
 exit "$wrong"
