@@ -1,5 +1,5 @@
 -- Places by number, and their links.
-use Rattle.std.proofs.Common.{◌≡◌, ◌≢◌, true, ℕ, zero, suc, ◌+◌, ◌-◌, ◌<◌, ◌≤◌, ◌⊎◌, inl, inr, List, [], ◌∷◌, ◌++◌, length, Some, slice_get, refl, ap, sym, subst, ◌∙◌, arith, length-append}
+use Rattle.std.proofs.Common.{◌≡◌, ◌≢◌, true, ℕ, zero, suc, ◌+◌, ◌<◌, ◌≤◌, ◌⊎◌, inl, inr, List, [], ◌∷◌, ◌++◌, length, Some, slice_get, refl, ap, sym, subst, ◌∙◌, arith, length-append}
 use Rattle.std.specs.Prelude.{IsSomeAnd}
 use Rattle.std.proofs.lemmas.List.{append-nil}
 use Rattle.bitcode_untyped.specs.Walk.{Place}
@@ -134,6 +134,14 @@ child_place bs ls above i step lie below among here =
       ap (place_at (places bs)) at ∙ place_is bs i b.0 lie b.1 ∙ ap (λ s. step_of s ∷ place_at (places bs) b.0.above) same
           ∙ ap (λ j. step_of step ∷ place_at (places bs) j) is,
     )
+
+pub step_place : (bs : List Below) (i above : ℕ) (step : Step) → LieBelow bs → slice_get bs i ≡ Some (record { above = above; step = step })
+    → IsPlace bs (i + 1) (step_of step ∷ place_at (places bs) above)
+step_place bs i above step lie here =
+    let b : Below = record { above = above; step = step } in
+    let within = got_within bs i b here in
+    let at : i + 1 ≡ suc i = omega arith in
+    (omega (arith, within), ap (place_at (places bs)) at ∙ place_is bs i b lie here)
 
 -- Where none of the children is that step below, no place is.
 pub none_below : (bs : List Below) (ls : List Links) (above : ℕ) (step : Step) → AreLinked bs ls

@@ -87,6 +87,18 @@ fn is_below(below: &[Below], i: usize, step: Step) -> bool
     }
 }
 
+// Whether the place at an index is that step below that place.
+#[inline(always)]
+fn is_at(below: &[Below], i: usize, above: usize, step: Step) -> bool
+    ensures { IsTrue result → slice_get below.now i ≡ Some
+        (record { above = above; step = step }) }
+{
+    match below.get(i) {
+        Some(b) => b.above == above && b.step == step,
+        None => false,
+    }
+}
+
 // The child that is that step below, looked for among all.
 #[inline(never)]
 fn search(below: &[Below], children: &[usize], step: Step) -> Option<usize>
@@ -175,6 +187,19 @@ impl Places {
             Some(links) => links.column,
             None => None,
         }
+    }
+
+    /// The number of the place one step below another, if just so many places were met between the two.
+    #[inline(always)]
+    pub fn near(&self, above: usize, step: Step, between: usize) -> Option<usize>
+        ensures { IfSome result (λ n. IsPlace self.now.below.items n
+            (step_of step ∷ place_at (places self.now.below.items) above)) }
+    {
+        let i = above.wrapping_add(between);
+        if is_at(&self.below, i, above, step) {
+            return Some(i + 1);
+        }
+        None
     }
 
     /// The number of the place one step below another, if it was met. It is looked for at a position among the children

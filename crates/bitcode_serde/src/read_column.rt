@@ -335,6 +335,7 @@ impl<'a> Column<'a> {
     /// Takes the next entry. At least one must be left.
     ///
     /// The only error is `out of memory`, because a text is copied.
+    #[inline(always)]
     pub fn take(&mut self) -> Result<Value, Error>
         requires { 0 < length (left self.old) }
         ensures taken { IfOk result (λ value. left self.old ≡ datum_of value ∷ left self.new) }

@@ -99,8 +99,8 @@ pub fn read_char(reader: &mut Reader<'_>, place: usize) -> Result<Value, Error>
     }
 }
 
-// Reads the bytes of a list, so many of them.
-fn read_elements_of_bytes(
+/// Reads the bytes of a list, so many of them.
+pub fn read_elements_of_bytes(
     reader: &mut Reader<'_>,
     place: usize,
     count: usize,

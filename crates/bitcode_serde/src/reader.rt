@@ -245,6 +245,9 @@ impl<'a> Reader<'a> {
         ensures asked { IsAskedAs self.old self.new }
         ensures refused { IfErr result (λ e. e.reason ≡ Reason.OutOfMemory) }
     {
+        if let Some(place) = self.places.near(above, step, 0) {
+            return Ok(place);
+        }
         match self.places.met(above, step, step.position()) {
             Some(place) => Ok(place),
             None => self.meet(above, step, count),
@@ -300,6 +303,9 @@ impl<'a> Reader<'a> {
     {
         if fields == 1 {
             return Ok(place);
+        }
+        if let Some(inside) = self.places.near(place, Step::Field(i), i) {
+            return Ok(inside);
         }
         match self.places.met(place, Step::Field(i), position) {
             Some(inside) => Ok(inside),
@@ -422,6 +428,7 @@ impl<'a> Reader<'a> {
     /// Takes the next length of a place, and returns the sum of all its lengths too.
     ///
     /// Errors: those of [`Reader::take`].
+    #[inline(always)]
     pub fn take_length(&mut self, place: usize) -> Result<Length, Error>
         requires place { place ≤ length self.old.places.below.items }
         requires sized { AreSized self.old.columns.items }
@@ -448,6 +455,7 @@ impl<'a> Reader<'a> {
     /// Takes the next index of a place, and returns the number of its equal indices too.
     ///
     /// Errors: those of [`Reader::take`].
+    #[inline(always)]
     pub fn take_index(&mut self, place: usize) -> Result<Index, Error>
         requires place { place ≤ length self.old.places.below.items }
         requires sized { AreSized self.old.columns.items }

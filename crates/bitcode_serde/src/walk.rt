@@ -11,6 +11,7 @@ ghost use Rattle.bitcode_untyped.specs.Faults.{faults_of, faults_of_fields, faul
 ghost use Rattle.bitcode_untyped.specs.ShapeTree.{ShapeTrees, natural_tree, seq_tree, map_tree, tuple_tree};
 ghost use Rattle.bitcode_untyped.specs.ShapeTree.{choice_tree, greatest_index};
 ghost use Rattle.bitcode_untyped.specs.View.{datum_of, tree_of_node, trees_of};
+ghost use Rattle.bitcode_untyped.specs.Walk.{element};
 ghost use Rattle.bitcode_serde.specs.ReadingValues.{HasColumn, field_at};
 ghost use Rattle.bitcode_serde.specs.Serializing.{Outcome, IsLeaf, IsVariant};
 ghost use Rattle.bitcode_serde.specs.Writing.{written, place_in, Grows};
@@ -279,6 +280,24 @@ fn write_map(
     Ok(())
 }
 
+/// The place of the elements of a list.
+///
+/// If an allocation fails, the error is `out of memory`.
+#[inline(always)]
+pub fn element_below(writer: &mut Writer, place: usize) -> Result<usize, Error>
+    requires { place ≤ length writer.old.places.below.items }
+    ensures inside { IfOk result (λ n. n ≤ length writer.new.places.below.items) }
+    ensures place { IfOk result (λ n. place_in writer.new n ≡ element ∷ place_in writer.old place) }
+    ensures grows { OnOk result (Grows writer.old writer.new) }
+    ensures written { OnOk result (written writer.new ≡ written writer.old) }
+    ensures refused { IfErr result (λ e. e.reason ≡ Reason.OutOfMemory) }
+{
+    match writer.near(place, Step::Element, 0) {
+        Some(inside) => Ok(inside),
+        None => writer.below(place, Step::Element),
+    }
+}
+
 /// The place of a field: a tuple of one has no place of its own.
 ///
 /// If an allocation fails, the error is `out of memory`.
@@ -300,7 +319,10 @@ pub fn field_below(
     if fields == 1 {
         return Ok(place);
     }
-    writer.below(place, Step::Field(index))
+    match writer.near(place, Step::Field(index), index) {
+        Some(inside) => Ok(inside),
+        None => writer.below(place, Step::Field(index)),
+    }
 }
 
 // Writes a tuple: each value under its node.

@@ -71,6 +71,16 @@ impl Writer {
         self.places.below(place, step)
     }
 
+    /// The number of the place one step below another, if just so many places were met between the two.
+    #[inline(always)]
+    pub fn near(&self, place: usize, step: Step, between: usize) -> Option<usize>
+        ensures inside { IfSome result (λ n. n ≤ length self.now.places.below.items) }
+        ensures place { IfSome result
+            (λ n. place_in self.now n ≡ step_of step ∷ place_in self.now place) }
+    {
+        self.places.near(place, step, between)
+    }
+
     // The column of a place, if it has one.
     #[inline(always)]
     fn column(&self, place: usize) -> Option<usize>
@@ -145,6 +155,7 @@ impl Writer {
     /// Writes a value of one case to the column of a place.
     ///
     /// Errors: those of [`Writer::put_each`].
+    #[inline(always)]
     pub fn put_one(&mut self, place: usize, kind: ColumnKind, value: &Value) -> Result<(), Error>
         requires place { place ≤ length self.old.places.below.items }
         requires values { kind ≢ ColumnKind.Lengths }

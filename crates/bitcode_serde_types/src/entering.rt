@@ -46,6 +46,7 @@ pub struct Variant {
 ///
 /// Errors: those of the column of lengths, and `too many zero sized types` if there are more than 65536 elements
 /// without a column.
+#[inline(always)]
 pub fn enter_list(
     reader: &mut Reader<'_>,
     budget: &mut Budget,
@@ -107,6 +108,7 @@ pub fn enter_map(reader: &mut Reader<'_>, budget: &mut Budget, place: usize) -> 
 /// the reason for which another index is rejected.
 ///
 /// Errors: those of the column of indices, and `unknown`.
+#[inline(always)]
 pub fn enter_variant(
     reader: &mut Reader<'_>,
     budget: &mut Budget,
@@ -160,6 +162,7 @@ pub fn read_at<'a, T: DeserializeAs<'a>>(
 }
 
 /// Reads field `i` of a struct or a tuple with `fields` fields.
+#[inline(always)]
 pub fn read_field<'a, T: DeserializeAs<'a>>(
     alloc: Global,
     reader: &mut Reader<'a>,

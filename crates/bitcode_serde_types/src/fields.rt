@@ -48,6 +48,7 @@ impl SerializeFields for () {
 
     ghost sound = { λ left. tt };
 
+    #[inline(always)]
     fn write_fields(
         &self,
         _writer: &mut Writer,
@@ -67,6 +68,7 @@ impl<A: SerializeAs, R: SerializeFields> SerializeFields for (A, R) {
 
     ghost sound = { λ left. (A.sound left, R.sound left) };
 
+    #[inline(always)]
     fn write_fields(
         &self,
         writer: &mut Writer,
@@ -82,6 +84,7 @@ impl<A: SerializeAs, R: SerializeFields> SerializeFields for (A, R) {
 }
 
 /// Writes a struct or a tuple with `count` fields.
+#[inline(always)]
 pub fn write_tuple<R: SerializeFields>(
     fields: &R,
     count: usize,

@@ -47,6 +47,7 @@ impl SerializeAs for bool {
 
     ghost sound = { λ left. tt };
 
+    #[inline(always)]
     fn write(&self, writer: &mut Writer, _left: usize, place: usize) -> Result<(), Error> {
         write_leaf(self, writer, place)
     }
@@ -59,6 +60,7 @@ impl SerializeAs for u8 {
 
     ghost sound = { λ left. width_1 };
 
+    #[inline(always)]
     fn write(&self, writer: &mut Writer, _left: usize, place: usize) -> Result<(), Error> {
         write_leaf(self, writer, place)
     }
@@ -71,6 +73,7 @@ impl SerializeAs for u16 {
 
     ghost sound = { λ left. width_2 };
 
+    #[inline(always)]
     fn write(&self, writer: &mut Writer, _left: usize, place: usize) -> Result<(), Error> {
         write_leaf(self, writer, place)
     }
@@ -83,6 +86,7 @@ impl SerializeAs for u32 {
 
     ghost sound = { λ left. width_4 };
 
+    #[inline(always)]
     fn write(&self, writer: &mut Writer, _left: usize, place: usize) -> Result<(), Error> {
         write_leaf(self, writer, place)
     }
@@ -95,6 +99,7 @@ impl SerializeAs for u64 {
 
     ghost sound = { λ left. width_8 };
 
+    #[inline(always)]
     fn write(&self, writer: &mut Writer, _left: usize, place: usize) -> Result<(), Error> {
         write_leaf(self, writer, place)
     }
@@ -107,6 +112,7 @@ impl SerializeAs for u128 {
 
     ghost sound = { λ left. width_16 };
 
+    #[inline(always)]
     fn write(&self, writer: &mut Writer, _left: usize, place: usize) -> Result<(), Error> {
         write_leaf(self, writer, place)
     }
@@ -119,6 +125,7 @@ impl SerializeAs for i8 {
 
     ghost sound = { λ left. width_1 };
 
+    #[inline(always)]
     fn write(&self, writer: &mut Writer, _left: usize, place: usize) -> Result<(), Error> {
         write_leaf(self, writer, place)
     }
@@ -131,6 +138,7 @@ impl SerializeAs for i16 {
 
     ghost sound = { λ left. width_2 };
 
+    #[inline(always)]
     fn write(&self, writer: &mut Writer, _left: usize, place: usize) -> Result<(), Error> {
         write_leaf(self, writer, place)
     }
@@ -143,6 +151,7 @@ impl SerializeAs for i32 {
 
     ghost sound = { λ left. width_4 };
 
+    #[inline(always)]
     fn write(&self, writer: &mut Writer, _left: usize, place: usize) -> Result<(), Error> {
         write_leaf(self, writer, place)
     }
@@ -155,6 +164,7 @@ impl SerializeAs for i64 {
 
     ghost sound = { λ left. width_8 };
 
+    #[inline(always)]
     fn write(&self, writer: &mut Writer, _left: usize, place: usize) -> Result<(), Error> {
         write_leaf(self, writer, place)
     }
@@ -167,6 +177,7 @@ impl SerializeAs for i128 {
 
     ghost sound = { λ left. width_16 };
 
+    #[inline(always)]
     fn write(&self, writer: &mut Writer, _left: usize, place: usize) -> Result<(), Error> {
         write_leaf(self, writer, place)
     }
@@ -179,6 +190,7 @@ impl SerializeAs for usize {
 
     ghost sound = { ⟦<u64 as SerializeAs>⟧.sound };
 
+    #[inline(always)]
     fn write(&self, writer: &mut Writer, left: usize, place: usize) -> Result<(), Error> {
         (*self as u64).write(writer, left, place)
     }
@@ -191,6 +203,7 @@ impl SerializeAs for isize {
 
     ghost sound = { ⟦<i64 as SerializeAs>⟧.sound };
 
+    #[inline(always)]
     fn write(&self, writer: &mut Writer, left: usize, place: usize) -> Result<(), Error> {
         (*self as i64).write(writer, left, place)
     }
@@ -203,6 +216,7 @@ impl SerializeAs for f32 {
 
     ghost sound = { λ left. tt };
 
+    #[inline(always)]
     fn write(&self, writer: &mut Writer, _left: usize, place: usize) -> Result<(), Error> {
         write_leaf(self, writer, place)
     }
@@ -215,6 +229,7 @@ impl SerializeAs for f64 {
 
     ghost sound = { λ left. tt };
 
+    #[inline(always)]
     fn write(&self, writer: &mut Writer, _left: usize, place: usize) -> Result<(), Error> {
         write_leaf(self, writer, place)
     }
@@ -227,6 +242,7 @@ impl SerializeAs for char {
 
     ghost sound = { λ left. width_4 };
 
+    #[inline(always)]
     fn write(&self, writer: &mut Writer, _left: usize, place: usize) -> Result<(), Error> {
         let code = *self;
         writer.put(place, Entry::Code(code as u32))
@@ -240,6 +256,7 @@ impl SerializeAs for String {
 
     ghost sound = { λ left. tt };
 
+    #[inline(always)]
     fn write(&self, writer: &mut Writer, _left: usize, place: usize) -> Result<(), Error> {
         write_text(self.as_str(), writer, place)
     }
@@ -252,6 +269,7 @@ impl<'a> SerializeAs for &'a str {
 
     ghost sound = { λ left. tt };
 
+    #[inline(always)]
     fn write(&self, writer: &mut Writer, _left: usize, place: usize) -> Result<(), Error> {
         write_text(*self, writer, place)
     }

@@ -21,6 +21,7 @@ impl<T: SerializeAs> SerializeAs for &T {
 
     ghost sound = { T.sound };
 
+    #[inline(always)]
     fn write(&self, writer: &mut Writer, left: usize, place: usize) -> Result<(), Error> {
         (**self).write(writer, left, place)
     }

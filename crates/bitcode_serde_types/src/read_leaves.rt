@@ -69,6 +69,7 @@ impl<'a> DeserializeAs<'a> for bool {
         false
     }
 
+    #[inline(always)]
     fn read(
         _alloc: Global,
         reader: &mut Reader<'a>,
@@ -85,6 +86,7 @@ impl<'a> DeserializeAs<'a> for u8 {
         false
     }
 
+    #[inline(always)]
     fn read(
         _alloc: Global,
         reader: &mut Reader<'a>,
@@ -101,6 +103,7 @@ impl<'a> DeserializeAs<'a> for u16 {
         false
     }
 
+    #[inline(always)]
     fn read(
         _alloc: Global,
         reader: &mut Reader<'a>,
@@ -117,6 +120,7 @@ impl<'a> DeserializeAs<'a> for u32 {
         false
     }
 
+    #[inline(always)]
     fn read(
         _alloc: Global,
         reader: &mut Reader<'a>,
@@ -133,6 +137,7 @@ impl<'a> DeserializeAs<'a> for u64 {
         false
     }
 
+    #[inline(always)]
     fn read(
         _alloc: Global,
         reader: &mut Reader<'a>,
@@ -149,6 +154,7 @@ impl<'a> DeserializeAs<'a> for u128 {
         false
     }
 
+    #[inline(always)]
     fn read(
         _alloc: Global,
         reader: &mut Reader<'a>,
@@ -165,6 +171,7 @@ impl<'a> DeserializeAs<'a> for i8 {
         false
     }
 
+    #[inline(always)]
     fn read(
         _alloc: Global,
         reader: &mut Reader<'a>,
@@ -181,6 +188,7 @@ impl<'a> DeserializeAs<'a> for i16 {
         false
     }
 
+    #[inline(always)]
     fn read(
         _alloc: Global,
         reader: &mut Reader<'a>,
@@ -197,6 +205,7 @@ impl<'a> DeserializeAs<'a> for i32 {
         false
     }
 
+    #[inline(always)]
     fn read(
         _alloc: Global,
         reader: &mut Reader<'a>,
@@ -213,6 +222,7 @@ impl<'a> DeserializeAs<'a> for i64 {
         false
     }
 
+    #[inline(always)]
     fn read(
         _alloc: Global,
         reader: &mut Reader<'a>,
@@ -229,6 +239,7 @@ impl<'a> DeserializeAs<'a> for i128 {
         false
     }
 
+    #[inline(always)]
     fn read(
         _alloc: Global,
         reader: &mut Reader<'a>,
@@ -245,6 +256,7 @@ impl<'a> DeserializeAs<'a> for usize {
         false
     }
 
+    #[inline(always)]
     fn read(
         alloc: Global,
         reader: &mut Reader<'a>,
@@ -262,6 +274,7 @@ impl<'a> DeserializeAs<'a> for isize {
         false
     }
 
+    #[inline(always)]
     fn read(
         alloc: Global,
         reader: &mut Reader<'a>,
@@ -279,6 +292,7 @@ impl<'a> DeserializeAs<'a> for f32 {
         false
     }
 
+    #[inline(always)]
     fn read(
         _alloc: Global,
         reader: &mut Reader<'a>,
@@ -295,6 +309,7 @@ impl<'a> DeserializeAs<'a> for f64 {
         false
     }
 
+    #[inline(always)]
     fn read(
         _alloc: Global,
         reader: &mut Reader<'a>,
@@ -311,6 +326,7 @@ impl<'a> DeserializeAs<'a> for char {
         false
     }
 
+    #[inline(always)]
     fn read(
         _alloc: Global,
         reader: &mut Reader<'a>,
@@ -334,6 +350,7 @@ impl<'a> DeserializeAs<'a> for &'a str {
         false
     }
 
+    #[inline(always)]
     fn read(
         _alloc: Global,
         reader: &mut Reader<'a>,

@@ -13,7 +13,7 @@ use crate::serialize_as::SerializeAs;
 use bitcode_memory::error::Error;
 use bitcode_serde::budget::Budget;
 use bitcode_serde::reader::Reader;
-use bitcode_serde::step::Step;
+use bitcode_serde::walk::element_below;
 use bitcode_serde::write_column::Entry;
 use bitcode_serde::writer::Writer;
 use std::alloc::Global;
@@ -28,7 +28,7 @@ impl<T: SerializeAs> SerializeAs for Vec<T> {
     fn write(&self, writer: &mut Writer, left: usize, place: usize) -> Result<(), Error> {
         let values = self.as_slice();
         writer.put(place, Entry::Length(values.len()))?;
-        let element = writer.below(place, Step::Element)?;
+        let element = element_below(writer, place)?;
         for value in values {
             value.write(writer, left, element)?;
         }

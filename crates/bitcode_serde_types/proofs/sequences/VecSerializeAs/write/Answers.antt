@@ -29,7 +29,7 @@ pub returns-in_err-write : goal.returns-in_err-write
 returns-in_err-write g c =
     let s = g.T.SerializeAs.tree c.args.left in
     let xs = c.as_slice-values.result.now in
-    let b = begun c.args.writer.now c.put.new.self c.below.new.self c.args.place c.in_ok-element.element
+    let b = begun c.args.writer.now c.put.new.self c.element_below.new.writer c.args.place c.in_ok-element.element
     (use_at (place_in c.args.writer.now c.args.place) length_kind (natural (length xs))) element
     c.in_ok-put.ensures.below c.in_ok-put.ensures.written c.in_ok-element.ensures.place c.in_ok-element.ensures.grows c.in_ok-element.ensures.written in
     let there = found_entry xs c.loop-value.value-index c.value-item.result c.loop-value-test.true c.value-item.is in
@@ -37,7 +37,7 @@ returns-in_err-write g c =
     rw (← c.as_slice-values.ensures.value)
     (refused_outcome c.args.writer.now (seq_tree s) c.args.place _ _
     c.from_residual-in_err-write.result c.write.new.writer c.in_err-write.field-0.0 y.0 y.1 y.2
-    (list_refused s g.T.SerializeAs.datum xs c.args.writer.now c.below.new.self c.loop-value.writer
+    (list_refused s g.T.SerializeAs.datum xs c.args.writer.now c.element_below.new.writer c.loop-value.writer
     c.args.place c.in_ok-element.element (length xs) c.loop-value.value-index _ _ _
     b.0 b.1 c.loop-value.invariant.0 c.loop-value.invariant.1.written
     (λ a. subst (IsAmong c.in_err-write.field-0.0.reason) (sym (seq_faults s g.T.SerializeAs.datum xs))
@@ -48,7 +48,7 @@ pub loop-value-preserved : goal.loop-value-preserved
 loop-value-preserved g c =
     let s = g.T.SerializeAs.tree c.args.left in
     let xs = c.as_slice-values.result.now in
-    let start = c.below.new.self in
+    let start = c.element_below.new.writer in
     let m = c.in_ok-element.element in
     let so_far = c.loop-value.invariant.1 in (
       c.loop-value.invariant.0,
@@ -63,10 +63,10 @@ pub returns : goal.returns
 returns g c =
     let s = g.T.SerializeAs.tree c.args.left in
     let xs = c.as_slice-values.result.now in
-    let b = begun c.args.writer.now c.put.new.self c.below.new.self c.args.place c.in_ok-element.element
+    let b = begun c.args.writer.now c.put.new.self c.element_below.new.writer c.args.place c.in_ok-element.element
     (use_at (place_in c.args.writer.now c.args.place) length_kind (natural (length xs))) element
     c.in_ok-put.ensures.below c.in_ok-put.ensures.written c.in_ok-element.ensures.place c.in_ok-element.ensures.grows c.in_ok-element.ensures.written in
-    let start = c.below.new.self in
+    let start = c.element_below.new.writer in
     let m = c.in_ok-element.element in
     let all = each_all (λ v. walk s (place_in start m) (g.T.SerializeAs.datum v)) (λ v. IsOf s (g.T.SerializeAs.datum v)) (λ v. deep_faults s (g.T.SerializeAs.datum v))
     xs start c.loop-value.value-index c.loop-value.writer c.loop-value-test.false c.loop-value.auto.value-index-end c.loop-value.invariant.1 in
@@ -80,6 +80,6 @@ pub loop-value-init : goal.loop-value-init
 loop-value-init g c =
     let s = g.T.SerializeAs.tree c.args.left in (
       c.in_ok-element.ensures.inside,
-      each_none (λ v. walk s (place_in c.below.new.self c.in_ok-element.element) (g.T.SerializeAs.datum v)) (λ v. IsOf s (g.T.SerializeAs.datum v))
-          (λ v. deep_faults s (g.T.SerializeAs.datum v)) c.as_slice-values.result.now c.below.new.self,
+      each_none (λ v. walk s (place_in c.element_below.new.writer c.in_ok-element.element) (g.T.SerializeAs.datum v)) (λ v. IsOf s (g.T.SerializeAs.datum v))
+          (λ v. deep_faults s (g.T.SerializeAs.datum v)) c.as_slice-values.result.now c.element_below.new.writer,
     )
