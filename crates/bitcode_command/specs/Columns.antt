@@ -30,7 +30,7 @@ pub record SpellsMany (shape : Shape) (count : ℕ) (bytes : List ℕ) : Type 0 
   pub size : length found ≡ count
   pub spelled : Spells shape bytes found
 
--- in the bytes of the input, those of the column spell its entries
+-- In the bytes of the input, those of the column spell its entries: ∥ ∥₁ says that there are such data.
 abbrev pub SpellsItsEntries : List ℕ → Column → Type 0
 SpellsItsEntries input column =
     ∥ SpellsMany (shape_of_kind column.kind) column.entries (slice_range input column.offset (column.offset + column.extent.size)) ∥₁
