@@ -1,2 +1,3 @@
 -- Lemmas of the command.
 mod PlacingLemmas
+mod EntryLemmas

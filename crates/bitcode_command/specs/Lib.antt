@@ -1,2 +1,3 @@
 -- What contracts of the command speak of.
 pub mod Placing
+pub mod Columns

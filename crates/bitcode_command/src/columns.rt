@@ -1,11 +1,13 @@
 //! The columns of an input, node by node.
-ghost use Rattle.std.specs.Prelude.{◌≡◌, length, true, IfOk};
+ghost use Rattle.std.specs.Prelude.{◌≡◌, length, true, All, IfOk};
+ghost use Rattle.bitcode_command.specs.Columns.{SpellsItsEntries};
 ghost use Rattle.bitcode_command.specs.Placing.{stand_from};
 
 use crate::column::{Column, ColumnKind};
+use crate::entries::lists_of_units;
 use crate::failure::Failure;
 use crate::place::Step;
-use crate::survey::{Counts, Survey, lists_of_units};
+use crate::survey::{Counts, Survey};
 use bitcode_memory::error::Reason;
 use bitcode_schema::schema::{IntKind, Schema, SchemaNode};
 use std::alloc::Global;
@@ -15,17 +17,19 @@ const ID_BYTES: usize = 16;
 
 /// Tells where each column of the bytes is, and how it is packed. The bytes encode exactly one value of the schema.
 ///
-/// The columns stand one behind another, in the order of the input, and fill it. The failure is the first fault of the
-/// input, with the path and the offset of the column at fault. With `strict` it is a fault, too, if a column has other
-/// bytes than those that are written for its entries.
+/// The columns stand one behind another, in the order of the input, and fill it. The bytes of each spell its entries.
+/// The failure is the first fault of the input, with the path and the offset of the column at fault. With `strict` it
+/// is a fault, too, if a column has other bytes than those that are written for its entries.
 pub fn columns(
     alloc: Global,
     schema: &Schema,
     bytes: &[u8],
     strict: bool,
 ) -> Result<Vec<Column>, Failure>
-    ensures { IfOk result
+    ensures stand { IfOk result
         (λ columns. stand_from 0 columns.items (length bytes.now) ≡ true) }
+    ensures spelled { IfOk result
+        (λ columns. All (SpellsItsEntries bytes.now) columns.items) }
 {
     let mut survey = Survey::new(alloc, bytes, strict);
     walk(&mut survey, schema.root(), 1)?;

@@ -5,6 +5,7 @@ mod calls;
 mod column;
 mod column_text;
 mod columns;
+mod entries;
 mod failure;
 mod fault;
 mod files;

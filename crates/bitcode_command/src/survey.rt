@@ -1,15 +1,19 @@
 //! Reading the columns of an input one after another, and noting where each is.
-ghost use Rattle.std.specs.Prelude.{◌≡◌, ◌≤◌, ◌+◌, ◌++◌, ◌∷◌, [], length, true, IfOk, IfSome, IsTrue, IsFalse};
+ghost use Rattle.std.specs.Prelude.{◌≡◌, ◌≤◌, ◌+◌, ◌++◌, ◌∷◌, [], length, true, All};
+ghost use Rattle.std.specs.Prelude.{IfOk, OnOk, IfSome, IsTrue, IsFalse};
+ghost use Rattle.std.specs.List.{slice_range};
+ghost use Rattle.std.proofs.Props.{props};
+ghost use Rattle.bitcode_command.specs.Columns.{SpellsItsEntries, SpellsMany, shape_of_kind};
 ghost use Rattle.bitcode_command.specs.Placing.{stand_from};
 
 use crate::column::{Column, ColumnFault, ColumnKind, Extent};
+use crate::entries::{check_entries, check_values, enum_of_units, lists_of_units};
 use crate::failure::Failure;
 use crate::packing::{Digits, digits_of_variants, extent_of, extent_of_lengths};
 use crate::place::{Place, Step};
 use bitcode_coder::length::LengthDecoder;
 use bitcode_memory::error::Reason;
-use bitcode_schema::check::{check_value, check_value_strict};
-use bitcode_schema::schema::{Schema, SchemaNode};
+use bitcode_schema::schema::SchemaNode;
 use std::alloc::Global;
 
 /// How often each variant of an enum stands in a column.
@@ -27,6 +31,7 @@ pub struct Survey<'a> {
     columns: Vec<Column>,
     ghost within: { at ≤ length whole.now },
     ghost stand: { stand_from 0 columns.items at ≡ true },
+    ghost spelled: { All (SpellsItsEntries whole.now) columns.items } by { Prim.hlevel props },
 }
 
 impl<'a> Survey<'a> {
@@ -51,8 +56,10 @@ impl<'a> Survey<'a> {
 
     /// The columns, if nothing is left of the input.
     pub fn finish(self) -> Result<Vec<Column>, Failure>
-        ensures { IfOk result
+        ensures stand { IfOk result
             (λ columns. stand_from 0 columns.items (length self.entry.whole.now) ≡ true) }
+        ensures spelled { IfOk result
+            (λ columns. All (SpellsItsEntries self.entry.whole.now) columns.items) }
     {
         if self.at < self.whole.len() {
             return Err(self.fault(self.at, Reason::ExpectedEof));
@@ -113,8 +120,19 @@ impl<'a> Survey<'a> {
         }
     }
 
+    // Refuses bytes from one place to another that are not so many entries of a kind.
+    fn check(&self, kind: ColumnKind, entries: usize, from: usize, to: usize) -> Result<(), Failure>
+        requires { (from ≤ to) × (to ≤ length self.now.whole.now) }
+        ensures { OnOk result
+            (SpellsMany (shape_of_kind kind) entries (slice_range self.now.whole.now from to)) }
+    {
+        match check_entries(self.alloc, kind, entries, &self.whole[from..to]) {
+            Ok(()) => Ok(()),
+            Err(error) => Err(self.fault(from, error.reason)),
+        }
+    }
+
     // Notes the column at the front of the rest.
-    #[tactic(auto, using(crate::proofs::PlacingLemmas::stand_next))]
     fn note(&mut self, kind: ColumnKind, entries: usize, extent: Extent) -> Result<(), Failure>
         ensures { self.new.whole.now ≡ self.old.whole.now }
     {
@@ -122,6 +140,7 @@ impl<'a> Survey<'a> {
         let Some(end) = self.end_of(extent.size) else {
             return Err(self.fault(offset, Reason::Eof));
         };
+        self.check(kind, entries, offset, end)?;
         let path = self.place.noted()?;
         let column = Column {
             path,
@@ -157,17 +176,7 @@ impl<'a> Survey<'a> {
         node: SchemaNode,
         count: usize,
     ) -> Result<(), Failure> {
-        let element = Box::new(self.alloc, node)?;
-        let schema = match Schema::new(SchemaNode::Array(count, element)) {
-            Ok(schema) => schema,
-            Err(error) => return Err(self.fault(at, error.reason)),
-        };
-        let checked = if self.strict {
-            check_value_strict(self.alloc, &schema, bytes)
-        } else {
-            check_value(self.alloc, &schema, bytes)
-        };
-        match checked {
+        match check_values(self.alloc, node, count, bytes, self.strict) {
             Ok(()) => Ok(()),
             Err(error) => Err(self.fault(at, error.reason)),
         }
@@ -223,20 +232,6 @@ fn add(columns: &mut Vec<Column>, column: Column) -> bool
         Ok(()) => true,
         Err(_) => false,
     }
-}
-
-/// The node of lists of units, of at most so many if there is a capacity, which have a column of lengths alone.
-pub fn lists_of_units(alloc: Global, capacity: Option<usize>) -> Result<SchemaNode, Failure> {
-    Ok(SchemaNode::List(capacity, Box::new(alloc, SchemaNode::Unit)?))
-}
-
-// The node of an enum of so many units, which has a column of variants alone.
-fn enum_of_units(alloc: Global, variants: usize) -> Result<SchemaNode, Failure> {
-    let mut units = Vec::new(alloc);
-    for _ in 0..variants {
-        units.push((String::new(alloc), SchemaNode::Unit))?;
-    }
-    Ok(SchemaNode::Enum(units))
 }
 
 // How often each variant stands among so many, if all are below the number of variants.
