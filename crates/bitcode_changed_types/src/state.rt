@@ -1,8 +1,7 @@
-//! `State` is written and read by the numbers of its variants. What is below its declaration was written by
-//! `scripts/new_type`.
-ghost use Rattle.std.specs.Prelude.{true, ◌≡◌};
+//! `State` is written by the numbers of its variants. What is below its declaration was written by `scripts/new_type`.
+ghost use Rattle.std.specs.Prelude.{true};
 ghost use Rattle.bitcode.specs.ByHand.{columns_in, each_variant, enum_data, is_variant, last_payload, of_one_of_3};
-ghost use Rattle.bitcode.specs.ByHand.{payload_and, payloads_in, refl};
+ghost use Rattle.bitcode.specs.ByHand.{payload_and, payloads_in, refl, ◌≡◌};
 ghost use Rattle.bitcode_changed_types.specs.declared.state.State.{State};
 
 use crate::state_of1::StateOf1;
@@ -26,19 +25,16 @@ pub enum State {
 }
 
 impl Enum for State {
-    ghost each = { each_variant
-        (payload_and ⟦<() as Shaped>⟧.data
+    ghost each = { each_variant (payload_and ⟦<() as Shaped>⟧.data
         (payload_and ⟦<u32 as Shaped>⟧.data (last_payload ⟦<(u16, bool) as Shaped>⟧.data))) refl
         (λ at. elim [
           | State.Waiting ↦ at 0 tt
           | State.Running a ↦ at 1 a
-          | State.Failed a b ↦ at 2
-              (a, b)
+          | State.Failed a b ↦ at 2 (a, b)
         ]) (
           (λ p. (State.Waiting, refl)),
           ((λ p. (State.Running p, refl)), λ p. (State.Failed p.0 p.1, refl)),
-        )
-        (elim [ State.Waiting ↦ refl | State.Running a ↦ refl | State.Failed a b ↦ refl ]) };
+        ) (elim [ State.Waiting ↦ refl | State.Running a ↦ refl | State.Failed a b ↦ refl ]) };
 
     fn variant(&self) -> u8 {
         match self {
@@ -82,8 +78,7 @@ impl Variants3<At<0>, At<3>, (), u32, (u16, bool)> for State {
     ghost are = { (
       is_variant refl (λ p. refl) (λ p old new h. h) (λ p old h. h) (λ p old new h. h),
       is_variant refl (λ p. refl) (λ p old new h. h) (λ p old h. h) (λ p old new h. h),
-      is_variant
-          refl (λ p. refl) (λ p old new h. h) (λ p old h. h) (λ p old new h. h),
+      is_variant refl (λ p. refl) (λ p old new h. h) (λ p old h. h) (λ p old new h. h),
       refl,
     ) };
 }
@@ -198,10 +193,8 @@ impl Earlier<2> for State {
 
     ghost is_upgrade = { elim [
       | StateOf2.Waiting ↦ λ t. (t ≡ State.Waiting)
-      | StateOf2.Running a ↦ λ t.
-          (t ≡ State.Running a)
-      | StateOf2.Failed a ↦ λ t. (new1 : _)
-          × ((new1 ≡ true) × (t ≡ State.Failed a new1))
+      | StateOf2.Running a ↦ λ t. (t ≡ State.Running a)
+      | StateOf2.Failed a ↦ λ t. (new1 : _) × ((new1 ≡ true) × (t ≡ State.Failed a new1))
     ] };
 
     fn upgrade(_alloc: Global, before: StateOf2) -> Result<Self, Error> {
@@ -249,8 +242,7 @@ impl Earlier<1> for State {
 
     ghost is_upgrade = { elim [
       | StateOf1.Waiting ↦ λ t. (t ≡ State.Waiting)
-      | StateOf1.Running a ↦ λ t.
-          (t ≡ State.Running a)
+      | StateOf1.Running a ↦ λ t. (t ≡ State.Running a)
     ] };
 
     fn upgrade(_alloc: Global, before: StateOf1) -> Result<Self, Error> {
