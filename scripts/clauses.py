@@ -172,25 +172,46 @@ def long_lines(text):
             yield number, line
 
 
-def lays_out(folder):
-    """Lays out the crate in the folder as `rt fmt` does, with long clauses broken. If `rt fmt` fails, it returns what
-    that says."""
+def fits_on(line, following):
+    """Whether what follows a line of a clause may stand on it too: neither is laid out by brackets."""
+    rest = following.lstrip()
+    is_apart = line.endswith((*OPENING, ",", ";")) or rest.startswith((*CLOSING, "|"))
+    return not is_apart and len(line) + 1 + len(rest) <= WIDEST
+
+
+def joined(text):
+    """The text of a file, without the breaks of clauses that are not needed: `rt fmt` keeps each break that it finds."""
+    new, reader = [], Reader()
+    for line in text.split("\n"):
+        is_open = reader.open > 0
+        reader.reads(line)
+        if is_open and reader.in_clause and fits_on(new[-1], line):
+            new[-1] += " " + line.lstrip()
+        else:
+            new.append(line)
+    return "\n".join(new)
+
+
+def lays_out(folder, joins=False):
+    """Lays out the crate in the folder as `rt fmt` does, with long clauses broken, and where `joins` is given without
+    breaks that are not needed. If `rt fmt` fails, it returns what that says."""
     for _ in range(5):
         ran = subprocess.run(["rt", "fmt"], cwd=folder, stdout=subprocess.PIPE, stderr=subprocess.STDOUT, text=True)
         if ran.returncode != 0:
             return ran.stdout
         found = os.walk(f"{folder}/src")
         paths = [f"{root}/{name}" for root, _, names in found for name in names if name.endswith(".rt")]
-        if not any([breaks(path) for path in paths]):
-            break
+        if not any([changes(path, wrapped) for path in paths]):
+            if not joins or not any([changes(path, joined) for path in paths]):
+                break
     return None
 
 
-def breaks(path):
-    """Breaks the long clauses of a file. Returns whether there were any."""
+def changes(path, laid_out):
+    """Lays out a file by a function of its text. Returns whether this changes it."""
     with open(path) as file:
         text = file.read()
-    new = wrapped(text)
+    new = laid_out(text)
     if new != text:
         with open(path, "w") as file:
             file.write(new)
@@ -208,7 +229,7 @@ def main():
     status = 0
     for path in paths:
         if "--write" in words:
-            breaks(path)
+            changes(path, wrapped)
             continue
         with open(path) as file:
             for number, line in long_lines(file.read()):

@@ -31,7 +31,6 @@ fn job(alloc: Global, number: u64, tries: u8) -> Result<Job, OpenError> {
         number,
         name: String::from_str(alloc, "name")?,
         tries,
-        weight: 2,
         delay: None,
     })
 }
@@ -57,7 +56,6 @@ fn a_struct_is_opened_of_each_version(rt: HostRuntime) -> Result<(), OpenError> 
         number: 9,
         name: String::from_str(alloc, "name")?,
         tries: 1,
-        weight: 4,
         delay: Some(30),
     };
     let bytes = seal(alloc, JOB, &newest)?;
@@ -99,7 +97,7 @@ fn an_enum_is_opened_of_each_version(rt: HostRuntime) -> Result<(), OpenError> {
     seal_bytes(SECOND, &[2, 9, 0], &mut bytes)?;
     let opened: State = open_any(alloc, &EXPECTED, &bytes)?;
     assert!(rt; opened == State::Failed { code: 9, is_final: true });
-    let newest = State::Stored(Hurry::Highest);
+    let newest = State::Failed { code: 9, is_final: false };
     let bytes = seal(alloc, JOB, &newest)?;
     let opened: State = open_any(alloc, &EXPECTED, &bytes)?;
     assert!(rt; opened == newest);
@@ -107,6 +105,10 @@ fn an_enum_is_opened_of_each_version(rt: HostRuntime) -> Result<(), OpenError> {
     seal_bytes(FIRST_JOB, &[1], &mut bytes)?;
     let opened: Hurry = open_any(alloc, &EXPECTED, &bytes)?;
     assert!(rt; opened == Hurry::High);
+    let mut bytes = Vec::new(alloc);
+    seal_bytes(FIRST_JOB, &[1, 1], &mut bytes)?;
+    let opened: Option<Hurry> = open_any(alloc, &EXPECTED, &bytes)?;
+    assert!(rt; opened == Some(Hurry::High));
     Ok(())
 }
 
@@ -132,19 +134,30 @@ fn a_map_is_opened_of_each_version(rt: HostRuntime) -> Result<(), OpenError> {
 }
 
 #[test]
+fn a_list_is_opened_of_each_version(rt: HostRuntime) -> Result<(), OpenError> {
+    let alloc = rt.alloc();
+    let firsts = vec![in alloc; first(alloc, 1)?, first(alloc, 2)?]?;
+    let opened: Vec<Job> = open_any(alloc, &EXPECTED, &seal(alloc, FIRST_JOB, &firsts)?)?;
+    assert!(rt; opened.len() == 2 && opened[1] == job(alloc, 2, 5)?);
+    let seconds = vec![in alloc; second(alloc, 1)?, second(alloc, 2)?]?;
+    let again: Vec<Job> = open_any(alloc, &EXPECTED, &seal(alloc, SECOND, &seconds)?)?;
+    assert!(rt; again.len() == 2 && again[1] == job(alloc, 2, 2)?);
+    Ok(())
+}
+
+#[test]
 fn a_struct_that_holds_them_is_opened_of_each_version(rt: HostRuntime) -> Result<(), OpenError> {
     let alloc = rt.alloc();
-    // one state has the same bytes in all versions that have its variant, and so has one hurry
+    // one state has the same bytes in all versions that have its variant
     let mut states: BTreeMap<u32, State> = BTreeMap::new(alloc);
     states.insert(3, State::Running(7))?;
-    let mut jobs = Vec::new(alloc);
-    jobs.push(first(alloc, 1)?)?;
-    jobs.push(first(alloc, 2)?)?;
-    let last = Some(Hurry::High);
-    let bytes = seal(alloc, FIRST_JOB, &(jobs, last, states))?;
+    let bytes = seal(alloc, FIRST_JOB, &states)?;
     let queue = open_queue(alloc, &bytes)?;
-    assert!(rt; queue.jobs.len() == 2 && queue.jobs[1] == job(alloc, 2, 5)?);
-    assert!(rt; queue.last == Some(Hurry::High) && queue.hurry == Hurry::High);
+    assert!(rt; queue.hurry == Hurry::High && queue.states.len() == 1);
+    assert!(rt; queue.states.get(&3) == Some(&State::Running(7)));
+    let bytes = seal(alloc, SECOND, &(states, Hurry::Low))?;
+    let queue = open_queue(alloc, &bytes)?;
+    assert!(rt; queue.hurry == Hurry::Low);
     assert!(rt; queue.states.get(&3) == Some(&State::Running(7)));
     let bytes = seal(alloc, JOB, &queue)?;
     let again: Queue = open_queue(alloc, &bytes)?;

@@ -3,8 +3,6 @@ ghost use Rattle.std.specs.Prelude.{◌≡◌};
 ghost use Rattle.bitcode.specs.ByHand.{data_as, field_alike, pair_alike, refl};
 
 use crate::hurry::Hurry;
-use crate::hurry_of1::HurryOf1;
-use crate::job::{Job, JobOf1, JobOf2};
 use crate::state::State;
 use crate::state_of1::StateOf1;
 use crate::state_of2::StateOf2;
@@ -16,65 +14,36 @@ use bitcode::{ConvertFrom, DecodeOwned, Error, HasDecoder, HasEncoder, Shaped};
 use std::alloc::Global;
 use std::collections::BTreeMap;
 
-/// Work that waits.
+/// Work that waits: where each piece of it is, by its number.
 #[derive(Debug, PartialEq, Drop)]
 pub struct Queue {
-    pub jobs: Vec<Job>,
-    pub last: Option<Hurry>,
     pub states: BTreeMap<u32, State>,
     pub hurry: Hurry,
 }
 
-type Parts = (Vec<Job>, Option<Hurry>, BTreeMap<u32, State>, Hurry);
-
 impl Shaped for Queue {
-    ghost data = { data_as (λ t. (t.jobs, t.last, t.states, t.hurry))
-        (λ p. (record { jobs = p.0; last = p.1; states = p.2; hurry = p.3 }, refl)) (λ t. refl)
-        ⟦<Parts as Shaped>⟧.data };
+    ghost data = { data_as (λ t. (t.states, t.hurry))
+        (λ p. (record { states = p.0; hurry = p.1 }, refl)) (λ t. refl)
+        ⟦<(BTreeMap<u32, State>, Hurry) as Shaped>⟧.data };
 
     fn told(&self) {
-        self.jobs.told();
-        self.last.told();
         self.states.told();
         self.hurry.told();
     }
 }
 
-impl ConvertFrom<Parts> for Queue {
-    fn convert_from(_alloc: Global, parts: Parts) -> Result<Self, Error> {
-        let (jobs, last, states, hurry) = parts;
-        Ok(Queue {
-            jobs,
-            last,
-            states,
-            hurry,
-        })
+impl ConvertFrom<(BTreeMap<u32, State>, Hurry)> for Queue {
+    fn convert_from(
+        _alloc: Global,
+        (states, hurry): (BTreeMap<u32, State>, Hurry),
+    ) -> Result<Self, Error> {
+        Ok(Queue { states, hurry })
     }
 
     ghost same_shape = { refl };
 }
 
 impl HasField<0> for Queue {
-    type Field = Vec<Job>;
-
-    ghost field = { λ t. t.jobs };
-
-    fn field(&self) -> &Vec<Job> {
-        &self.jobs
-    }
-}
-
-impl HasField<1> for Queue {
-    type Field = Option<Hurry>;
-
-    ghost field = { λ t. t.last };
-
-    fn field(&self) -> &Option<Hurry> {
-        &self.last
-    }
-}
-
-impl HasField<2> for Queue {
     type Field = BTreeMap<u32, State>;
 
     ghost field = { λ t. t.states };
@@ -84,7 +53,7 @@ impl HasField<2> for Queue {
     }
 }
 
-impl HasField<3> for Queue {
+impl HasField<1> for Queue {
     type Field = Hurry;
 
     ghost field = { λ t. t.hurry };
@@ -94,10 +63,10 @@ impl HasField<3> for Queue {
     }
 }
 
-type Fields = <((Vec<Job>, Option<Hurry>), (BTreeMap<u32, State>, Hurry)) as HasEncoder>::Encoder;
+type Fields = <(BTreeMap<u32, State>, Hurry) as HasEncoder>::Encoder;
 
 impl InFields<Fields> for Queue {
-    type Numbers = ((Nth<0>, Nth<1>), (Nth<2>, Nth<3>));
+    type Numbers = (Nth<0>, Nth<1>);
 
     type Inside = <Queue as HasDecoder<'static>>::Decoder;
 
@@ -105,8 +74,7 @@ impl InFields<Fields> for Queue {
 
     ghost of_fields = { λ d h. h };
 
-    ghost same_listings = { λ t. pair_alike (pair_alike field_alike field_alike)
-        (pair_alike field_alike field_alike) };
+    ghost same_listings = { λ t. pair_alike field_alike field_alike };
 }
 
 impl HasEncoder for Queue {
@@ -114,24 +82,22 @@ impl HasEncoder for Queue {
 }
 
 impl<'a> HasDecoder<'a> for Queue {
-    type Decoder = DecoderOfFields<'a, Parts>;
+    type Decoder = DecoderOfFields<'a, (BTreeMap<u32, State>, Hurry)>;
 }
 
 impl DecodeOwned for Queue {}
 
 /// `Queue` as it was in version 2.
-pub type QueueOf2 = (Vec<JobOf2>, Option<Hurry>, BTreeMap<u32, StateOf2>, Hurry);
+pub type QueueOf2 = (BTreeMap<u32, StateOf2>, Hurry);
 
 impl Earlier<2> for Queue {
     type Before = QueueOf2;
 
-    ghost is_upgrade = { λ b t. (⟦<Vec<Job> as Earlier<2>>⟧.is_upgrade b.0 t.jobs) × (t.last ≡ b.1)
-        × (⟦<BTreeMap<u32, State> as Earlier<2>>⟧.is_upgrade b.2 t.states) × (t.hurry ≡ b.3) };
+    ghost is_upgrade = { λ b t. (⟦<BTreeMap<u32, State> as Earlier<2>>⟧.is_upgrade b.0 t.states)
+        × (t.hurry ≡ b.1) };
 
-    fn upgrade(alloc: Global, (jobs, last, states, hurry): QueueOf2) -> Result<Self, Error> {
+    fn upgrade(alloc: Global, (states, hurry): QueueOf2) -> Result<Self, Error> {
         Ok(Queue {
-            jobs: <Vec<Job> as Earlier<2>>::upgrade(alloc, jobs)?,
-            last,
             states: <BTreeMap<u32, State> as Earlier<2>>::upgrade(alloc, states)?,
             hurry,
         })
@@ -164,22 +130,18 @@ impl<'a> ReadsVersions<'a, Queue> for QueueVersion2 {
 }
 
 /// `Queue` as it was in version 1.
-pub type QueueOf1 = (Vec<JobOf1>, Option<HurryOf1>, BTreeMap<u32, StateOf1>);
+pub type QueueOf1 = BTreeMap<u32, StateOf1>;
 
 impl Earlier<1> for Queue {
     ghost use Rattle.bitcode_changed_types.specs.declared.hurry.Hurry.{Hurry};
 
     type Before = QueueOf1;
 
-    ghost is_upgrade = { λ b t. (⟦<Vec<Job> as Earlier<1>>⟧.is_upgrade b.0 t.jobs)
-        × (⟦<Option<Hurry> as Earlier<1>>⟧.is_upgrade b.1 t.last)
-        × (⟦<BTreeMap<u32, State> as Earlier<1>>⟧.is_upgrade b.2 t.states)
+    ghost is_upgrade = { λ b t. (⟦<BTreeMap<u32, State> as Earlier<1>>⟧.is_upgrade b t.states)
         × (t.hurry ≡ Hurry.High) };
 
-    fn upgrade(alloc: Global, (jobs, last, states): QueueOf1) -> Result<Self, Error> {
+    fn upgrade(alloc: Global, states: QueueOf1) -> Result<Self, Error> {
         Ok(Queue {
-            jobs: <Vec<Job> as Earlier<1>>::upgrade(alloc, jobs)?,
-            last: <Option<Hurry> as Earlier<1>>::upgrade(alloc, last)?,
             states: <BTreeMap<u32, State> as Earlier<1>>::upgrade(alloc, states)?,
             hurry: Hurry::High,
         })

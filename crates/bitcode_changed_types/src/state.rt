@@ -1,16 +1,14 @@
-//! `State` is written and read by the numbers of its variants. What is below its declaration was written by
-//! `scripts/new_type`.
-ghost use Rattle.std.specs.Prelude.{true, ◌≡◌};
-ghost use Rattle.bitcode.specs.ByHand.{columns_in, each_variant, enum_data, is_variant, last_payload, of_one_of_4};
-ghost use Rattle.bitcode.specs.ByHand.{payload_and, payloads_in, refl};
+//! `State` is written by the numbers of its variants. What is below its declaration was written by `scripts/new_type`.
+ghost use Rattle.std.specs.Prelude.{true};
+ghost use Rattle.bitcode.specs.ByHand.{columns_in, each_variant, enum_data, is_variant, last_payload, of_one_of_3};
+ghost use Rattle.bitcode.specs.ByHand.{payload_and, payloads_in, refl, ◌≡◌};
 ghost use Rattle.bitcode_changed_types.specs.declared.state.State.{State};
 
-use crate::hurry::Hurry;
 use crate::state_of1::StateOf1;
 use crate::state_of2::StateOf2;
 use bitcode::own::{
-    At, DecodersOf4, EncodersOf4, Enum, EnumDecoder, EnumEncoder, EnumOf, OneOf4, VariantColumns,
-    VariantPayloads, Variants4, WritesVariants, told_as,
+    At, DecodersOf3, EncodersOf3, Enum, EnumDecoder, EnumEncoder, EnumOf, OneOf3, VariantColumns,
+    VariantPayloads, Variants3, WritesVariants, told_as,
 };
 use bitcode::sealed::{
     Earlier, Expected, OpenError, ReadsVersions, Version, Versioned, open_version,
@@ -24,40 +22,25 @@ pub enum State {
     Waiting,
     Running(u32),
     Failed { code: u16, is_final: bool },
-    Stored(Hurry),
 }
 
 impl Enum for State {
-    ghost each = { each_variant
-        (payload_and ⟦<() as Shaped>⟧.data
-        (payload_and ⟦<u32 as Shaped>⟧.data
-        (payload_and ⟦<(u16, bool) as Shaped>⟧.data (last_payload ⟦<Hurry as Shaped>⟧.data)))) refl
+    ghost each = { each_variant (payload_and ⟦<() as Shaped>⟧.data
+        (payload_and ⟦<u32 as Shaped>⟧.data (last_payload ⟦<(u16, bool) as Shaped>⟧.data))) refl
         (λ at. elim [
           | State.Waiting ↦ at 0 tt
           | State.Running a ↦ at 1 a
-          | State.Failed a b ↦ at 2
-              (a, b)
-          | State.Stored a ↦ at 3 a
+          | State.Failed a b ↦ at 2 (a, b)
         ]) (
           (λ p. (State.Waiting, refl)),
-          (
-            (λ p. (State.Running p, refl)),
-            ((λ p. (State.Failed p.0 p.1, refl)), λ p. (State.Stored p, refl)),
-          ),
-        )
-        (elim [
-          | State.Waiting ↦ refl
-          | State.Running a ↦ refl
-          | State.Failed a b ↦ refl
-          | State.Stored a ↦ refl
-        ]) };
+          ((λ p. (State.Running p, refl)), λ p. (State.Failed p.0 p.1, refl)),
+        ) (elim [ State.Waiting ↦ refl | State.Running a ↦ refl | State.Failed a b ↦ refl ]) };
 
     fn variant(&self) -> u8 {
         match self {
             State::Waiting => 0,
             State::Running(a) => told_as(1, &a),
             State::Failed { code, is_final } => told_as(2, &(code, is_final)),
-            State::Stored(a) => told_as(3, &a),
         }
     }
 }
@@ -70,7 +53,7 @@ impl Shaped for State {
     }
 }
 
-impl EnumOf<4> for State {
+impl EnumOf<3> for State {
     ghost counted = { (refl, refl) };
 
     ghost lists_variants = { λ t d listed. listed };
@@ -78,57 +61,46 @@ impl EnumOf<4> for State {
     ghost makes_variants = { λ d t made. made };
 }
 
-impl Variants4<At<0>, At<4>, (), u32, (u16, bool), Hurry> for State {
-    ghost values = { (
-      λ p. State.Waiting,
-      λ p. State.Running p,
-      λ p. State.Failed p.0 p.1,
-      λ p.
-          State.Stored p,
-    ) };
+impl Variants3<At<0>, At<3>, (), u32, (u16, bool)> for State {
+    ghost values = { (λ p. State.Waiting, λ p. State.Running p, λ p. State.Failed p.0 p.1) };
 
-    fn of_payload(payload: OneOf4<(), u32, (u16, bool), Hurry>) -> Self
-        ensures { result ≡ of_one_of_4 (λ p. State.Waiting) (λ p. State.Running p)
-            (λ p. State.Failed p.0 p.1) (λ p. State.Stored p) payload }
+    fn of_payload(payload: OneOf3<(), u32, (u16, bool)>) -> Self
+        ensures { result ≡ of_one_of_3 (λ p. State.Waiting) (λ p. State.Running p)
+            (λ p. State.Failed p.0 p.1) payload }
     {
         match payload {
-            OneOf4::First(()) => State::Waiting,
-            OneOf4::Second(a) => State::Running(a),
-            OneOf4::Third((code, is_final)) => State::Failed { code, is_final },
-            OneOf4::Fourth(a) => State::Stored(a),
+            OneOf3::First(()) => State::Waiting,
+            OneOf3::Second(a) => State::Running(a),
+            OneOf3::Third((code, is_final)) => State::Failed { code, is_final },
         }
     }
 
     ghost are = { (
       is_variant refl (λ p. refl) (λ p old new h. h) (λ p old h. h) (λ p old new h. h),
       is_variant refl (λ p. refl) (λ p old new h. h) (λ p old h. h) (λ p old new h. h),
-      is_variant
-          refl (λ p. refl) (λ p old new h. h) (λ p old h. h) (λ p old new h. h),
-      is_variant refl
-          (λ p. refl) (λ p old new h. h) (λ p old h. h) (λ p old new h. h),
+      is_variant refl (λ p. refl) (λ p old new h. h) (λ p old h. h) (λ p old new h. h),
       refl,
     ) };
 }
 
-type Columns = EncodersOf4<At<0>, (), u32, (u16, bool), Hurry>;
+type Columns = EncodersOf3<At<0>, (), u32, (u16, bool)>;
 
-impl WritesVariants<At<0>, At<4>, Columns> for State {
+impl WritesVariants<At<0>, At<3>, Columns> for State {
     fn write(&self, to: &mut Columns) -> Result<(), Error> {
         match self {
             State::Waiting => to.encode_first(self, &&()),
             State::Running(a) => to.encode_second(self, &a),
-            State::Failed { code, is_final } => to.encode_third::<_, _, _, _, _, (&u16, &bool)>(
+            State::Failed { code, is_final } => to.encode_third::<_, _, _, _, (&u16, &bool)>(
                 self,
                 &(code, is_final),
             ),
-            State::Stored(a) => to.encode_fourth(self, &a),
         }
     }
 
     ghost are_columns = { λ c. (refl, refl) };
 }
 
-type Decoders<'a> = DecodersOf4<'a, At<0>, (), u32, (u16, bool), Hurry>;
+type Decoders<'a> = DecodersOf3<'a, At<0>, (), u32, (u16, bool)>;
 
 /// The columns of the payloads of `State`.
 #[derive(Drop)]
@@ -154,9 +126,9 @@ impl VariantColumns for StateColumns {
     }
 }
 
-impl WritesVariants<At<0>, At<4>, StateColumns> for State {
+impl WritesVariants<At<0>, At<3>, StateColumns> for State {
     fn write(&self, to: &mut StateColumns) -> Result<(), Error> {
-        WritesVariants::<At<0>, At<4>, Columns>::write(self, &mut to.all)
+        WritesVariants::<At<0>, At<3>, Columns>::write(self, &mut to.all)
     }
 
     ghost are_columns = { λ c. (refl, refl) };
@@ -168,13 +140,13 @@ pub struct StatePayloads<'a> {
     all: Decoders<'a>,
 }
 
-impl<'a> VariantPayloads<'a, At<0>, At<4>, State> for StatePayloads<'a> {
+impl<'a> VariantPayloads<'a, At<0>, At<3>, State> for StatePayloads<'a> {
     ghost held = { payloads_in (λ d. d.all)
-        ⟦<Decoders<'a> as VariantPayloads<'a, At<0>, At<4>, State>>⟧.held };
+        ⟦<Decoders<'a> as VariantPayloads<'a, At<0>, At<3>, State>>⟧.held };
 
     fn new(alloc: Global) -> Self {
         StatePayloads {
-            all: VariantPayloads::<At<0>, At<4>, State>::new(alloc),
+            all: VariantPayloads::<At<0>, At<3>, State>::new(alloc),
         }
     }
 
@@ -186,7 +158,7 @@ impl<'a> VariantPayloads<'a, At<0>, At<4>, State> for StatePayloads<'a> {
         strict: bool,
         free: &mut u128,
     ) -> Result<bool, Error> {
-        VariantPayloads::<At<0>, At<4>, State>::read_at(
+        VariantPayloads::<At<0>, At<3>, State>::read_at(
             &mut self.all,
             number,
             input,
@@ -197,18 +169,18 @@ impl<'a> VariantPayloads<'a, At<0>, At<4>, State> for StatePayloads<'a> {
     }
 
     fn decode_at(&mut self, number: usize) -> Result<State, Error> {
-        VariantPayloads::<At<0>, At<4>, State>::decode_at(&mut self.all, number)
+        VariantPayloads::<At<0>, At<3>, State>::decode_at(&mut self.all, number)
     }
 
     fn sized(&self) {}
 }
 
 impl HasEncoder for State {
-    type Encoder = EnumEncoder<4, StateColumns>;
+    type Encoder = EnumEncoder<3, StateColumns>;
 }
 
 impl<'a> HasDecoder<'a> for State {
-    type Decoder = EnumDecoder<'a, 4, State, StatePayloads<'a>>;
+    type Decoder = EnumDecoder<'a, 3, State, StatePayloads<'a>>;
 }
 
 impl DecodeOwned for State {}
@@ -221,10 +193,8 @@ impl Earlier<2> for State {
 
     ghost is_upgrade = { elim [
       | StateOf2.Waiting ↦ λ t. (t ≡ State.Waiting)
-      | StateOf2.Running a ↦ λ t.
-          (t ≡ State.Running a)
-      | StateOf2.Failed a ↦ λ t. (new1 : _)
-          × ((new1 ≡ true) × (t ≡ State.Failed a new1))
+      | StateOf2.Running a ↦ λ t. (t ≡ State.Running a)
+      | StateOf2.Failed a ↦ λ t. (new1 : _) × ((new1 ≡ true) × (t ≡ State.Failed a new1))
     ] };
 
     fn upgrade(_alloc: Global, before: StateOf2) -> Result<Self, Error> {
@@ -272,8 +242,7 @@ impl Earlier<1> for State {
 
     ghost is_upgrade = { elim [
       | StateOf1.Waiting ↦ λ t. (t ≡ State.Waiting)
-      | StateOf1.Running a ↦ λ t.
-          (t ≡ State.Running a)
+      | StateOf1.Running a ↦ λ t. (t ≡ State.Running a)
     ] };
 
     fn upgrade(_alloc: Global, before: StateOf1) -> Result<Self, Error> {

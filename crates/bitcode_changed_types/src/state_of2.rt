@@ -1,8 +1,7 @@
-//! `StateOf2` is written and read by the numbers of its variants. What is below its declaration was written by
+//! `StateOf2` is written by the numbers of its variants. What is below its declaration was written by
 //! `scripts/new_type`.
-ghost use Rattle.std.specs.Prelude.{◌≡◌};
 ghost use Rattle.bitcode.specs.ByHand.{each_variant, enum_data, is_variant, last_payload, of_one_of_3, payload_and};
-ghost use Rattle.bitcode.specs.ByHand.{payloads_in, refl};
+ghost use Rattle.bitcode.specs.ByHand.{payloads_in, refl, ◌≡◌};
 ghost use Rattle.bitcode_changed_types.specs.declared.state_of2.StateOf2.{StateOf2};
 
 use bitcode::own::{
@@ -20,14 +19,12 @@ pub enum StateOf2 {
 }
 
 impl Enum for StateOf2 {
-    ghost each = { each_variant
-        (payload_and ⟦<() as Shaped>⟧.data
+    ghost each = { each_variant (payload_and ⟦<() as Shaped>⟧.data
         (payload_and ⟦<u32 as Shaped>⟧.data (last_payload ⟦<u16 as Shaped>⟧.data))) refl
         (λ at. elim [
           | StateOf2.Waiting ↦ at 0 tt
           | StateOf2.Running a ↦ at 1 a
-          | StateOf2.Failed a ↦
-              at 2 a
+          | StateOf2.Failed a ↦ at 2 a
         ]) (
           (λ p. (StateOf2.Waiting, refl)),
           ((λ p. (StateOf2.Running p, refl)), λ p. (StateOf2.Failed p, refl)),
@@ -76,8 +73,7 @@ impl Variants3<At<0>, At<3>, (), u32, u16> for StateOf2 {
     ghost are = { (
       is_variant refl (λ p. refl) (λ p old new h. h) (λ p old h. h) (λ p old new h. h),
       is_variant refl (λ p. refl) (λ p old new h. h) (λ p old h. h) (λ p old new h. h),
-      is_variant
-          refl (λ p. refl) (λ p old new h. h) (λ p old h. h) (λ p old new h. h),
+      is_variant refl (λ p. refl) (λ p old new h. h) (λ p old h. h) (λ p old new h. h),
       refl,
     ) };
 }

@@ -140,13 +140,10 @@ pub struct AccountPart1 {
 type Fields1 = (i64, Option<i16>, Vec<u8>, char, Vec<String>, Home);
 
 impl Shaped for AccountPart1 {
-    ghost data = { data_as (λ t. (t.balance, t.rating, t.avatar, t.initial, t.tags, t.home))
-        (λ p. (
-          record
-              { balance = p.0; rating = p.1; avatar = p.2; initial = p.3; tags = p.4; home = p.5 },
-          refl,
-        ))
-        (λ t. refl) ⟦<Fields1 as Shaped>⟧.data };
+    ghost data = { data_as (λ t. (t.balance, t.rating, t.avatar, t.initial, t.tags, t.home)) (λ p. (
+      record { balance = p.0; rating = p.1; avatar = p.2; initial = p.3; tags = p.4; home = p.5 },
+      refl,
+    )) (λ t. refl) ⟦<Fields1 as Shaped>⟧.data };
 
     fn told(&self) {
         self.balance.told();
@@ -246,8 +243,7 @@ impl Shaped for AccountPart2 {
             visits = p.2;
             friends = p.3;
             checksum = p.4;
-            rank
-                = p.5;
+            rank = p.5;
           },
           refl,
         )) (λ t. refl) ⟦<Fields2 as Shaped>⟧.data };
@@ -338,54 +334,48 @@ pub type AccountInside<'a> = (
 );
 
 impl<'a> Shaped for Account<'a> {
-    ghost data = { data_as
-        (λ t. (
-          record
-              { id = t.id; name = t.name; country = t.country; level = t.level; active = t.active },
-          (
-            record {
-              balance = t.balance;
-              rating = t.rating;
-              avatar = t.avatar;
-              initial = t.initial;
-              tags = t.tags;
-              home = t.home;
-            },
-            record {
-              position = t.position;
-              best = t.best;
-              visits = t.visits;
-              friends = t.friends;
-              checksum = t.checksum;
-              rank = t.rank;
-            },
-          ),
-        ))
-        (λ p. (
-          record {
-            id = p.0.id;
-            name = p.0.name;
-            country = p.0.country;
-            level = p.0.level;
-            active
-                = p.0.active;
-            balance = p.1.0.balance;
-            rating = p.1.0.rating;
-            avatar = p.1.0.avatar;
-            initial
-                = p.1.0.initial;
-            tags = p.1.0.tags;
-            home = p.1.0.home;
-            position = p.1.1.position;
-            best
-                = p.1.1.best;
-            visits = p.1.1.visits;
-            friends = p.1.1.friends;
-            checksum = p.1.1.checksum;
-            rank = p.1.1.rank;
-          },
-          refl,
-        )) (λ t. refl) ⟦<Parts<'a> as Shaped>⟧.data };
+    ghost data = { data_as (λ t. (
+      record { id = t.id; name = t.name; country = t.country; level = t.level; active = t.active },
+      (
+        record {
+          balance = t.balance;
+          rating = t.rating;
+          avatar = t.avatar;
+          initial = t.initial;
+          tags = t.tags;
+          home = t.home;
+        },
+        record {
+          position = t.position;
+          best = t.best;
+          visits = t.visits;
+          friends = t.friends;
+          checksum = t.checksum;
+          rank = t.rank;
+        },
+      ),
+    )) (λ p. (
+      record {
+        id = p.0.id;
+        name = p.0.name;
+        country = p.0.country;
+        level = p.0.level;
+        active = p.0.active;
+        balance = p.1.0.balance;
+        rating = p.1.0.rating;
+        avatar = p.1.0.avatar;
+        initial = p.1.0.initial;
+        tags = p.1.0.tags;
+        home = p.1.0.home;
+        position = p.1.1.position;
+        best = p.1.1.best;
+        visits = p.1.1.visits;
+        friends = p.1.1.friends;
+        checksum = p.1.1.checksum;
+        rank = p.1.1.rank;
+      },
+      refl,
+    )) (λ t. refl) ⟦<Parts<'a> as Shaped>⟧.data };
 
     fn told(&self) {
         self.id.told();
@@ -675,8 +665,7 @@ impl Buffer for AccountPart0Encoder {
 impl<'a> PartEncoder<Account<'a>, AccountPart0<'a>> for AccountPart0Encoder {
     ghost shape = { ⟦<Pairs0<'static> as Shaped>⟧.data.shape };
 
-    ghost lists = { lists_both
-        (lists_both (λ t d. ⟦<u64 as Shaped>⟧.data.lists t.id d)
+    ghost lists = { lists_both (lists_both (λ t d. ⟦<u64 as Shaped>⟧.data.lists t.id d)
         (λ t d. ⟦<String as Shaped>⟧.data.lists t.name d))
         (lists_both (λ t d. ⟦<&'a str as Shaped>⟧.data.lists t.country d)
         (lists_both (λ t d. ⟦<u8 as Shaped>⟧.data.lists t.level d)
@@ -757,8 +746,7 @@ impl Buffer for AccountPart1Encoder {
 impl<'a> PartEncoder<Account<'a>, AccountPart1> for AccountPart1Encoder {
     ghost shape = { ⟦<Pairs1 as Shaped>⟧.data.shape };
 
-    ghost lists = { lists_both
-        (lists_both (λ t d. ⟦<i64 as Shaped>⟧.data.lists t.balance d)
+    ghost lists = { lists_both (lists_both (λ t d. ⟦<i64 as Shaped>⟧.data.lists t.balance d)
         (lists_both (λ t d. ⟦<Option<i16> as Shaped>⟧.data.lists t.rating d)
         (λ t d. ⟦<Vec<u8> as Shaped>⟧.data.lists t.avatar d)))
         (lists_both (λ t d. ⟦<char as Shaped>⟧.data.lists t.initial d)
@@ -841,8 +829,7 @@ impl Buffer for AccountPart2Encoder {
 impl<'a> PartEncoder<Account<'a>, AccountPart2> for AccountPart2Encoder {
     ghost shape = { ⟦<Pairs2 as Shaped>⟧.data.shape };
 
-    ghost lists = { lists_both
-        (lists_both (λ t d. ⟦<(i32, i32) as Shaped>⟧.data.lists t.position d)
+    ghost lists = { lists_both (lists_both (λ t d. ⟦<(i32, i32) as Shaped>⟧.data.lists t.position d)
         (lists_both (λ t d. ⟦<Option<Trophy> as Shaped>⟧.data.lists t.best d)
         (λ t d. ⟦<u32 as Shaped>⟧.data.lists t.visits d)))
         (lists_both (λ t d. ⟦<u16 as Shaped>⟧.data.lists t.friends d)
@@ -891,8 +878,7 @@ impl<'a> InFields<Fields> for Account<'a> {
 
     ghost of_fields = { λ d h. h };
 
-    ghost same_listings = { λ t. pair_alike
-        (pair_alike (pair_alike field_alike field_alike)
+    ghost same_listings = { λ t. pair_alike (pair_alike (pair_alike field_alike field_alike)
         (pair_alike field_alike (pair_alike field_alike field_alike)))
         (pair_alike (pair_alike (pair_alike field_alike (pair_alike field_alike field_alike))
         (pair_alike field_alike (pair_alike field_alike field_alike)))

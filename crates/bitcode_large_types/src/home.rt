@@ -16,8 +16,7 @@ pub struct Home {
 }
 
 impl Shaped for Home {
-    ghost data = { key_as
-        (data_as (λ t. (t.sector, t.planet, t.plot))
+    ghost data = { key_as (data_as (λ t. (t.sector, t.planet, t.plot))
         (λ p. (record { sector = p.0; planet = p.1; plot = p.2 }, refl)) (λ t. refl)
         ⟦<(u8, u16, u16) as Shaped>⟧.data) ⟦<Home as PartialEq>⟧.eq ⟦<Home as Ord>⟧.cmp
         (λ s t. ands_in_order (⟦<u8 as PartialEq>⟧.eq s.sector t.sector)

@@ -1,8 +1,6 @@
-//! `Packet` is written and read by the numbers of its variants. What is below its declaration was written by
-//! `scripts/new_type`.
-ghost use Rattle.std.specs.Prelude.{◌≡◌};
+//! `Packet` is written by the numbers of its variants. What is below its declaration was written by `scripts/new_type`.
 ghost use Rattle.bitcode.specs.ByHand.{columns_in, each_variant, enum_data, is_variant, last_payload, of_one_of_4};
-ghost use Rattle.bitcode.specs.ByHand.{payload_and, payloads_in, refl};
+ghost use Rattle.bitcode.specs.ByHand.{payload_and, payloads_in, refl, ◌≡◌};
 ghost use Rattle.bitcode_large_types.specs.declared.packet.Packet.{Packet};
 
 use bitcode::own::{
@@ -38,28 +36,17 @@ pub enum Packet {
 }
 
 impl Enum for Packet {
-    ghost each = { each_variant
-        (payload_and ⟦<() as Shaped>⟧.data
-        (payload_and ⟦<() as Shaped>⟧.data
-        (payload_and ⟦<(String, u64) as Shaped>⟧.data
-        (payload_and ⟦<() as Shaped>⟧.data
-        (payload_and ⟦<(u32, String) as Shaped>⟧.data
-        (payload_and ⟦<String as Shaped>⟧.data
-        (payload_and ⟦<u16 as Shaped>⟧.data
-        (payload_and ⟦<u16 as Shaped>⟧.data
-        (payload_and ⟦<String as Shaped>⟧.data
-        (payload_and ⟦<(u32, String) as Shaped>⟧.data
-        (payload_and ⟦<(i32, i32) as Shaped>⟧.data
-        (payload_and ⟦<i16 as Shaped>⟧.data
-        (payload_and ⟦<u32 as Shaped>⟧.data
-        (payload_and ⟦<(u32, u16) as Shaped>⟧.data
-        (payload_and ⟦<u16 as Shaped>⟧.data
-        (payload_and ⟦<(u64, u16) as Shaped>⟧.data
-        (payload_and ⟦<u64 as Shaped>⟧.data
-        (payload_and ⟦<Vec<u16> as Shaped>⟧.data
-        (payload_and ⟦<Option<u32> as Shaped>⟧.data
-        (last_payload ⟦<() as Shaped>⟧.data)))))))))))))))))))) refl
-        (λ at. elim [
+    ghost each = { each_variant (payload_and ⟦<() as Shaped>⟧.data
+        (payload_and ⟦<() as Shaped>⟧.data (payload_and ⟦<(String, u64) as Shaped>⟧.data
+        (payload_and ⟦<() as Shaped>⟧.data (payload_and ⟦<(u32, String) as Shaped>⟧.data
+        (payload_and ⟦<String as Shaped>⟧.data (payload_and ⟦<u16 as Shaped>⟧.data
+        (payload_and ⟦<u16 as Shaped>⟧.data (payload_and ⟦<String as Shaped>⟧.data
+        (payload_and ⟦<(u32, String) as Shaped>⟧.data (payload_and ⟦<(i32, i32) as Shaped>⟧.data
+        (payload_and ⟦<i16 as Shaped>⟧.data (payload_and ⟦<u32 as Shaped>⟧.data
+        (payload_and ⟦<(u32, u16) as Shaped>⟧.data (payload_and ⟦<u16 as Shaped>⟧.data
+        (payload_and ⟦<(u64, u16) as Shaped>⟧.data (payload_and ⟦<u64 as Shaped>⟧.data
+        (payload_and ⟦<Vec<u16> as Shaped>⟧.data (payload_and ⟦<Option<u32> as Shaped>⟧.data
+        (last_payload ⟦<() as Shaped>⟧.data)))))))))))))))))))) refl (λ at. elim [
           | Packet.Ping ↦ at 0 tt
           | Packet.Pong ↦ at 1 tt
           | Packet.Login a b ↦ at 2 (a, b)
@@ -69,20 +56,16 @@ impl Enum for Packet {
           | Packet.Join a ↦ at 6 a
           | Packet.Leave a ↦ at 7 a
           | Packet.Say a ↦ at 8 a
-          | Packet.Whisper a
-              b ↦ at 9 (a, b)
+          | Packet.Whisper a b ↦ at 9 (a, b)
           | Packet.Move a b ↦ at 10 (a, b)
           | Packet.Turn a ↦ at 11 a
-          | Packet.Attack a
-              ↦ at 12 a
+          | Packet.Attack a ↦ at 12 a
           | Packet.Hit a b ↦ at 13 (a, b)
           | Packet.Heal a ↦ at 14 a
-          | Packet.Take a b ↦ at
-              15 (a, b)
+          | Packet.Take a b ↦ at 15 (a, b)
           | Packet.Drop a ↦ at 16 a
           | Packet.Inventory a ↦ at 17 a
-          | Packet.Score a ↦ at 18
-              a
+          | Packet.Score a ↦ at 18 a
           | Packet.Quit ↦ at 19 tt
         ]) (
           (λ p. (Packet.Ping, refl)),
@@ -122,8 +105,7 @@ impl Enum for Packet {
                                             (λ p. (Packet.Inventory p, refl)),
                                             (
                                               (λ p. (Packet.Score p, refl)),
-                                              λ p.
-                                                  (Packet.Quit, refl),
+                                              λ p. (Packet.Quit, refl),
                                             ),
                                           ),
                                         ),
@@ -142,26 +124,22 @@ impl Enum for Packet {
               ),
             ),
           ),
-        )
-        (elim [
+        ) (elim [
           | Packet.Ping ↦ refl
           | Packet.Pong ↦ refl
           | Packet.Login a b ↦ refl
-          | Packet.Logout ↦
-              refl
+          | Packet.Logout ↦ refl
           | Packet.Welcome a b ↦ refl
           | Packet.Refused a ↦ refl
           | Packet.Join a ↦ refl
           | Packet.Leave a ↦ refl
           | Packet.Say a ↦ refl
           | Packet.Whisper a b ↦ refl
-          | Packet.Move a b ↦
-              refl
+          | Packet.Move a b ↦ refl
           | Packet.Turn a ↦ refl
           | Packet.Attack a ↦ refl
           | Packet.Hit a b ↦ refl
-          | Packet.Heal a
-              ↦ refl
+          | Packet.Heal a ↦ refl
           | Packet.Take a b ↦ refl
           | Packet.Drop a ↦ refl
           | Packet.Inventory a ↦ refl
@@ -216,8 +194,7 @@ impl Variants4<At<0>, At<4>, (), (), (String, u64), ()> for Packet {
       λ p. Packet.Ping,
       λ p. Packet.Pong,
       λ p. Packet.Login p.0 p.1,
-      λ p.
-          Packet.Logout,
+      λ p. Packet.Logout,
     ) };
 
     fn of_payload(payload: OneOf4<(), (), (String, u64), ()>) -> Self
@@ -235,10 +212,8 @@ impl Variants4<At<0>, At<4>, (), (), (String, u64), ()> for Packet {
     ghost are = { (
       is_variant refl (λ p. refl) (λ p old new h. h) (λ p old h. h) (λ p old new h. h),
       is_variant refl (λ p. refl) (λ p old new h. h) (λ p old h. h) (λ p old new h. h),
-      is_variant
-          refl (λ p. refl) (λ p old new h. h) (λ p old h. h) (λ p old new h. h),
-      is_variant refl
-          (λ p. refl) (λ p old new h. h) (λ p old h. h) (λ p old new h. h),
+      is_variant refl (λ p. refl) (λ p old new h. h) (λ p old h. h) (λ p old new h. h),
+      is_variant refl (λ p. refl) (λ p old new h. h) (λ p old h. h) (λ p old new h. h),
       refl,
     ) };
 }
@@ -262,8 +237,7 @@ impl Variants4<At<4>, At<8>, (u32, String), String, u16, u16> for Packet {
       λ p. Packet.Welcome p.0 p.1,
       λ p. Packet.Refused p,
       λ p. Packet.Join p,
-      λ p.
-          Packet.Leave p,
+      λ p. Packet.Leave p,
     ) };
 
     fn of_payload(payload: OneOf4<(u32, String), String, u16, u16>) -> Self
@@ -281,10 +255,8 @@ impl Variants4<At<4>, At<8>, (u32, String), String, u16, u16> for Packet {
     ghost are = { (
       is_variant refl (λ p. refl) (λ p old new h. h) (λ p old h. h) (λ p old new h. h),
       is_variant refl (λ p. refl) (λ p old new h. h) (λ p old h. h) (λ p old new h. h),
-      is_variant
-          refl (λ p. refl) (λ p old new h. h) (λ p old h. h) (λ p old new h. h),
-      is_variant refl
-          (λ p. refl) (λ p old new h. h) (λ p old h. h) (λ p old new h. h),
+      is_variant refl (λ p. refl) (λ p old new h. h) (λ p old h. h) (λ p old new h. h),
+      is_variant refl (λ p. refl) (λ p old new h. h) (λ p old h. h) (λ p old new h. h),
       refl,
     ) };
 }
@@ -313,8 +285,7 @@ impl Variants4<At<8>, At<12>, String, (u32, String), (i32, i32), i16> for Packet
       λ p. Packet.Say p,
       λ p. Packet.Whisper p.0 p.1,
       λ p. Packet.Move p.0 p.1,
-      λ p.
-          Packet.Turn p,
+      λ p. Packet.Turn p,
     ) };
 
     fn of_payload(payload: OneOf4<String, (u32, String), (i32, i32), i16>) -> Self
@@ -332,10 +303,8 @@ impl Variants4<At<8>, At<12>, String, (u32, String), (i32, i32), i16> for Packet
     ghost are = { (
       is_variant refl (λ p. refl) (λ p old new h. h) (λ p old h. h) (λ p old new h. h),
       is_variant refl (λ p. refl) (λ p old new h. h) (λ p old h. h) (λ p old new h. h),
-      is_variant
-          refl (λ p. refl) (λ p old new h. h) (λ p old h. h) (λ p old new h. h),
-      is_variant refl
-          (λ p. refl) (λ p old new h. h) (λ p old h. h) (λ p old new h. h),
+      is_variant refl (λ p. refl) (λ p old new h. h) (λ p old h. h) (λ p old new h. h),
+      is_variant refl (λ p. refl) (λ p old new h. h) (λ p old h. h) (λ p old new h. h),
       refl,
     ) };
 }
@@ -364,8 +333,7 @@ impl Variants4<At<12>, At<16>, u32, (u32, u16), u16, (u64, u16)> for Packet {
       λ p. Packet.Attack p,
       λ p. Packet.Hit p.0 p.1,
       λ p. Packet.Heal p,
-      λ p.
-          Packet.Take p.0 p.1,
+      λ p. Packet.Take p.0 p.1,
     ) };
 
     fn of_payload(payload: OneOf4<u32, (u32, u16), u16, (u64, u16)>) -> Self
@@ -383,10 +351,8 @@ impl Variants4<At<12>, At<16>, u32, (u32, u16), u16, (u64, u16)> for Packet {
     ghost are = { (
       is_variant refl (λ p. refl) (λ p old new h. h) (λ p old h. h) (λ p old new h. h),
       is_variant refl (λ p. refl) (λ p old new h. h) (λ p old h. h) (λ p old new h. h),
-      is_variant
-          refl (λ p. refl) (λ p old new h. h) (λ p old h. h) (λ p old new h. h),
-      is_variant refl
-          (λ p. refl) (λ p old new h. h) (λ p old h. h) (λ p old new h. h),
+      is_variant refl (λ p. refl) (λ p old new h. h) (λ p old h. h) (λ p old new h. h),
+      is_variant refl (λ p. refl) (λ p old new h. h) (λ p old h. h) (λ p old new h. h),
       refl,
     ) };
 }
@@ -415,8 +381,7 @@ impl Variants4<At<16>, At<20>, u64, Vec<u16>, Option<u32>, ()> for Packet {
       λ p. Packet.Drop p,
       λ p. Packet.Inventory p,
       λ p. Packet.Score p,
-      λ p.
-          Packet.Quit,
+      λ p. Packet.Quit,
     ) };
 
     fn of_payload(payload: OneOf4<u64, Vec<u16>, Option<u32>, ()>) -> Self
@@ -434,10 +399,8 @@ impl Variants4<At<16>, At<20>, u64, Vec<u16>, Option<u32>, ()> for Packet {
     ghost are = { (
       is_variant refl (λ p. refl) (λ p old new h. h) (λ p old h. h) (λ p old new h. h),
       is_variant refl (λ p. refl) (λ p old new h. h) (λ p old h. h) (λ p old new h. h),
-      is_variant
-          refl (λ p. refl) (λ p old new h. h) (λ p old h. h) (λ p old new h. h),
-      is_variant refl
-          (λ p. refl) (λ p old new h. h) (λ p old h. h) (λ p old new h. h),
+      is_variant refl (λ p. refl) (λ p old new h. h) (λ p old h. h) (λ p old new h. h),
+      is_variant refl (λ p. refl) (λ p old new h. h) (λ p old h. h) (λ p old new h. h),
       refl,
     ) };
 }

@@ -1,8 +1,6 @@
-//! `Event` is written and read by the numbers of its variants. What is below its declaration was written by
-//! `scripts/new_type`.
-ghost use Rattle.std.specs.Prelude.{◌≡◌};
+//! `Event` is written by the numbers of its variants. What is below its declaration was written by `scripts/new_type`.
 ghost use Rattle.bitcode.specs.ByHand.{columns_in, each_variant, enum_data, is_variant, last_payload, of_one_of_4};
-ghost use Rattle.bitcode.specs.ByHand.{payload_and, payloads_in, refl};
+ghost use Rattle.bitcode.specs.ByHand.{payload_and, payloads_in, refl, ◌≡◌};
 ghost use Rattle.bitcode_own_types.specs.declared.event.Event.{Event};
 
 use bitcode::own::{
@@ -22,16 +20,13 @@ pub enum Event {
 }
 
 impl Enum for Event {
-    ghost each = { each_variant
-        (payload_and ⟦<() as Shaped>⟧.data
+    ghost each = { each_variant (payload_and ⟦<() as Shaped>⟧.data
         (payload_and ⟦<(u64, String) as Shaped>⟧.data
         (payload_and ⟦<(u64, (i8, i8)) as Shaped>⟧.data
-        (last_payload ⟦<Option<u16> as Shaped>⟧.data)))) refl
-        (λ at. elim [
+        (last_payload ⟦<Option<u16> as Shaped>⟧.data)))) refl (λ at. elim [
           | Event.Tick ↦ at 0 tt
           | Event.Spawn a b ↦ at 1 (a, b)
-          | Event.Move a b c ↦ at 2
-              (a, (b, c))
+          | Event.Move a b c ↦ at 2 (a, (b, c))
           | Event.Quit a ↦ at 3 a
         ]) (
           (λ p. (Event.Tick, refl)),
@@ -39,13 +34,11 @@ impl Enum for Event {
             (λ p. (Event.Spawn p.0 p.1, refl)),
             ((λ p. (Event.Move p.0 p.1.0 p.1.1, refl)), λ p. (Event.Quit p, refl)),
           ),
-        )
-        (elim [
+        ) (elim [
           | Event.Tick ↦ refl
           | Event.Spawn a b ↦ refl
           | Event.Move a b c ↦ refl
-          | Event.Quit a
-              ↦ refl
+          | Event.Quit a ↦ refl
         ]) };
 
     fn variant(&self) -> u8 {
@@ -79,8 +72,7 @@ impl Variants4<At<0>, At<4>, (), (u64, String), (u64, (i8, i8)), Option<u16>> fo
       λ p. Event.Tick,
       λ p. Event.Spawn p.0 p.1,
       λ p. Event.Move p.0 p.1.0 p.1.1,
-      λ
-          p. Event.Quit p,
+      λ p. Event.Quit p,
     ) };
 
     fn of_payload(payload: OneOf4<(), (u64, String), (u64, (i8, i8)), Option<u16>>) -> Self
@@ -98,10 +90,8 @@ impl Variants4<At<0>, At<4>, (), (u64, String), (u64, (i8, i8)), Option<u16>> fo
     ghost are = { (
       is_variant refl (λ p. refl) (λ p old new h. h) (λ p old h. h) (λ p old new h. h),
       is_variant refl (λ p. refl) (λ p old new h. h) (λ p old h. h) (λ p old new h. h),
-      is_variant
-          refl (λ p. refl) (λ p old new h. h) (λ p old h. h) (λ p old new h. h),
-      is_variant refl
-          (λ p. refl) (λ p old new h. h) (λ p old h. h) (λ p old new h. h),
+      is_variant refl (λ p. refl) (λ p old new h. h) (λ p old h. h) (λ p old new h. h),
+      is_variant refl (λ p. refl) (λ p old new h. h) (λ p old h. h) (λ p old new h. h),
       refl,
     ) };
 }

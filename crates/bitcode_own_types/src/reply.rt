@@ -1,8 +1,6 @@
-//! `Reply` is written and read by the numbers of its variants. What is below its declaration was written by
-//! `scripts/new_type`.
-ghost use Rattle.std.specs.Prelude.{◌≡◌};
+//! `Reply` is written by the numbers of its variants. What is below its declaration was written by `scripts/new_type`.
 ghost use Rattle.bitcode.specs.ByHand.{columns_in, each_variant, enum_data, is_variant, last_payload, of_one_of_4};
-ghost use Rattle.bitcode.specs.ByHand.{payload_and, payloads_in, refl};
+ghost use Rattle.bitcode.specs.ByHand.{payload_and, payloads_in, refl, ◌≡◌};
 ghost use Rattle.bitcode_own_types.specs.declared.reply.Reply.{Reply};
 
 use crate::message::Message;
@@ -28,24 +26,20 @@ pub enum Reply<'a> {
 }
 
 impl<'a> Enum for Reply<'a> {
-    ghost each = { each_variant
-        (payload_and ⟦<() as Shaped>⟧.data
+    ghost each = { each_variant (payload_and ⟦<() as Shaped>⟧.data
         (payload_and ⟦<&'a str as Shaped>⟧.data
         (payload_and ⟦<(Vec<&'a str>, Option<u32>) as Shaped>⟧.data
         (payload_and ⟦<BTreeMap<u32, String> as Shaped>⟧.data
-        (payload_and ⟦<BTreeSet<u16> as Shaped>⟧.data
-        (payload_and ⟦<Message<'a> as Shaped>⟧.data
+        (payload_and ⟦<BTreeSet<u16> as Shaped>⟧.data (payload_and ⟦<Message<'a> as Shaped>⟧.data
         (payload_and ⟦<(HashMap<u16, String>, u64) as Shaped>⟧.data
-        (last_payload ⟦<() as Shaped>⟧.data)))))))) refl
-        (λ at. elim [
+        (last_payload ⟦<() as Shaped>⟧.data)))))))) refl (λ at. elim [
           | Reply.Done ↦ at 0 tt
           | Reply.Text a ↦ at 1 a
           | Reply.Names a b ↦ at 2 (a, b)
           | Reply.Counts a ↦ at 3 a
           | Reply.Seen a ↦ at 4 a
           | Reply.Told a ↦ at 5 a
-          | Reply.Found a b ↦
-              at 6 (a, b)
+          | Reply.Found a b ↦ at 6 (a, b)
           | Reply.Gone ↦ at 7 tt
         ]) (
           (λ p. (Reply.Done, refl)),
@@ -65,18 +59,15 @@ impl<'a> Enum for Reply<'a> {
               ),
             ),
           ),
-        )
-        (elim [
+        ) (elim [
           | Reply.Done ↦ refl
           | Reply.Text a ↦ refl
           | Reply.Names a b ↦ refl
-          | Reply.Counts a ↦
-              refl
+          | Reply.Counts a ↦ refl
           | Reply.Seen a ↦ refl
           | Reply.Told a ↦ refl
           | Reply.Found a b ↦ refl
-          | Reply.Gone ↦
-              refl
+          | Reply.Gone ↦ refl
         ]) };
 
     fn variant(&self) -> u8 {
@@ -115,8 +106,7 @@ impl<'a> Variants4<At<0>, At<4>, (), &'a str, (Vec<&'a str>, Option<u32>), BTree
       λ p. Reply.Done,
       λ p. Reply.Text p,
       λ p. Reply.Names p.0 p.1,
-      λ p.
-          Reply.Counts p,
+      λ p. Reply.Counts p,
     ) };
 
     fn of_payload(
@@ -136,10 +126,8 @@ impl<'a> Variants4<At<0>, At<4>, (), &'a str, (Vec<&'a str>, Option<u32>), BTree
     ghost are = { (
       is_variant refl (λ p. refl) (λ p old new h. h) (λ p old h. h) (λ p old new h. h),
       is_variant refl (λ p. refl) (λ p old new h. h) (λ p old h. h) (λ p old new h. h),
-      is_variant
-          refl (λ p. refl) (λ p old new h. h) (λ p old h. h) (λ p old new h. h),
-      is_variant refl
-          (λ p. refl) (λ p old new h. h) (λ p old h. h) (λ p old new h. h),
+      is_variant refl (λ p. refl) (λ p old new h. h) (λ p old h. h) (λ p old new h. h),
+      is_variant refl (λ p. refl) (λ p old new h. h) (λ p old h. h) (λ p old new h. h),
       refl,
     ) };
 }
@@ -175,8 +163,7 @@ impl<'a> Variants4<At<4>, At<8>, BTreeSet<u16>, Message<'a>, (HashMap<u16, Strin
       λ p. Reply.Seen p,
       λ p. Reply.Told p,
       λ p. Reply.Found p.0 p.1,
-      λ p.
-          Reply.Gone,
+      λ p. Reply.Gone,
     ) };
 
     fn of_payload(
@@ -196,10 +183,8 @@ impl<'a> Variants4<At<4>, At<8>, BTreeSet<u16>, Message<'a>, (HashMap<u16, Strin
     ghost are = { (
       is_variant refl (λ p. refl) (λ p old new h. h) (λ p old h. h) (λ p old new h. h),
       is_variant refl (λ p. refl) (λ p old new h. h) (λ p old h. h) (λ p old new h. h),
-      is_variant
-          refl (λ p. refl) (λ p old new h. h) (λ p old h. h) (λ p old new h. h),
-      is_variant refl
-          (λ p. refl) (λ p old new h. h) (λ p old h. h) (λ p old new h. h),
+      is_variant refl (λ p. refl) (λ p old new h. h) (λ p old h. h) (λ p old new h. h),
+      is_variant refl (λ p. refl) (λ p old new h. h) (λ p old h. h) (λ p old new h. h),
       refl,
     ) };
 }

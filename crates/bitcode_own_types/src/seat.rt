@@ -16,8 +16,7 @@ pub struct Seat {
 }
 
 impl Shaped for Seat {
-    ghost data = { key_as
-        (data_as (λ t. (t.level, t.row, t.place))
+    ghost data = { key_as (data_as (λ t. (t.level, t.row, t.place))
         (λ p. (record { level = p.0; row = p.1; place = p.2 }, refl)) (λ t. refl)
         ⟦<(u8, u16, u16) as Shaped>⟧.data) ⟦<Seat as PartialEq>⟧.eq ⟦<Seat as Ord>⟧.cmp
         (λ s t. ands_in_order (⟦<u8 as PartialEq>⟧.eq s.level t.level)

@@ -45,8 +45,7 @@ impl<'a> FromChecked<(u16, u16), <(u16, u16) as HasDecoder<'a>>::Decoder> for Gr
 
     ghost takes = { λ p. nat_lt 0 p.1 && nat_le p.0 p.1 };
 
-    ghost admits = { admits
-        (pair_back (natural_back {is_value = ⟦<u16 as Shaped>⟧.data.is_value})
+    ghost admits = { admits (pair_back (natural_back {is_value = ⟦<u16 as Shaped>⟧.data.is_value})
         (natural_back {is_value = ⟦<u16 as Shaped>⟧.data.is_value}))
         (λ p. nat_lt 0 p.1 && nat_le p.0 p.1) };
 

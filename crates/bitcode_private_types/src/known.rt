@@ -17,8 +17,7 @@ pub struct Known {
 
 impl Shaped for Known {
     ghost data = { skipped_data (λ t. (t.name, t.health))
-        (λ t. (t.is_seen ≡ false) × (t.path.items ≡ []))
-        (λ g p. (
+        (λ t. (t.is_seen ≡ false) × (t.path.items ≡ [])) (λ g p. (
           record { name = p.0; health = p.1; is_seen = false; path = (empty_vec g).0 },
           (refl, (refl, (empty_vec g).1)),
         )) ⟦<(String, i16) as Shaped>⟧.data };

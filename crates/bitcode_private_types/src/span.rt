@@ -44,8 +44,7 @@ impl<'a> FromChecked<(u64, u64), <(u64, u64) as HasDecoder<'a>>::Decoder> for Sp
 
     ghost takes = { λ p. nat_le p.0 p.1 };
 
-    ghost admits = { admits
-        (pair_back (natural_back {is_value = ⟦<u64 as Shaped>⟧.data.is_value})
+    ghost admits = { admits (pair_back (natural_back {is_value = ⟦<u64 as Shaped>⟧.data.is_value})
         (natural_back {is_value = ⟦<u64 as Shaped>⟧.data.is_value})) (λ p. nat_le p.0 p.1) };
 
     fn from_checked(fields: (u64, u64)) -> Option<Self>

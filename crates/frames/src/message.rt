@@ -1,8 +1,7 @@
-//! `Message` is written and read by the numbers of its variants. What is below its declaration was written by
+//! `Message` is written by the numbers of its variants. What is below its declaration was written by
 //! `scripts/new_type`.
-ghost use Rattle.std.specs.Prelude.{◌≡◌};
 ghost use Rattle.bitcode.specs.ByHand.{columns_in, each_variant, enum_data, is_variant, last_payload, of_one_of_4};
-ghost use Rattle.bitcode.specs.ByHand.{payload_and, payloads_in, refl};
+ghost use Rattle.bitcode.specs.ByHand.{payload_and, payloads_in, refl, ◌≡◌};
 ghost use Rattle.frames.specs.declared.message.Message.{Message};
 
 use crate::celsius::Celsius;
@@ -24,15 +23,13 @@ pub enum Message<'a> {
 }
 
 impl<'a> Enum for Message<'a> {
-    ghost each = { each_variant
-        (payload_and ⟦<(&'a str, u16) as Shaped>⟧.data
+    ghost each = { each_variant (payload_and ⟦<(&'a str, u16) as Shaped>⟧.data
         (payload_and ⟦<(u32, Celsius) as Shaped>⟧.data
         (payload_and ⟦<(Level, &'a str) as Shaped>⟧.data (last_payload ⟦<() as Shaped>⟧.data))))
         refl (λ at. elim [
           | Message.Hello a b ↦ at 0 (a, b)
           | Message.Measured a b ↦ at 1 (a, b)
-          | Message.Log a b ↦
-              at 2 (a, b)
+          | Message.Log a b ↦ at 2 (a, b)
           | Message.Bye ↦ at 3 tt
         ]) (
           (λ p. (Message.Hello p.0 p.1, refl)),
@@ -40,8 +37,7 @@ impl<'a> Enum for Message<'a> {
             (λ p. (Message.Measured p.0 p.1, refl)),
             ((λ p. (Message.Log p.0 p.1, refl)), λ p. (Message.Bye, refl)),
           ),
-        )
-        (elim [
+        ) (elim [
           | Message.Hello a b ↦ refl
           | Message.Measured a b ↦ refl
           | Message.Log a b ↦ refl
@@ -79,8 +75,7 @@ impl<'a> Variants4<At<0>, At<4>, (&'a str, u16), (u32, Celsius), (Level, &'a str
     ghost values = { (
       λ p. Message.Hello p.0 p.1,
       λ p. Message.Measured p.0 p.1,
-      λ p. Message.Log
-          p.0 p.1,
+      λ p. Message.Log p.0 p.1,
       λ p. Message.Bye,
     ) };
 
@@ -99,10 +94,8 @@ impl<'a> Variants4<At<0>, At<4>, (&'a str, u16), (u32, Celsius), (Level, &'a str
     ghost are = { (
       is_variant refl (λ p. refl) (λ p old new h. h) (λ p old h. h) (λ p old new h. h),
       is_variant refl (λ p. refl) (λ p old new h. h) (λ p old h. h) (λ p old new h. h),
-      is_variant
-          refl (λ p. refl) (λ p old new h. h) (λ p old h. h) (λ p old new h. h),
-      is_variant refl
-          (λ p. refl) (λ p old new h. h) (λ p old h. h) (λ p old new h. h),
+      is_variant refl (λ p. refl) (λ p old new h. h) (λ p old h. h) (λ p old new h. h),
+      is_variant refl (λ p. refl) (λ p old new h. h) (λ p old h. h) (λ p old new h. h),
       refl,
     ) };
 }

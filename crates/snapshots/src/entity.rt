@@ -21,20 +21,18 @@ pub struct Entity {
 type Parts = (u32, Kind, i32, i32, u16, bool, Option<u32>);
 
 impl Shaped for Entity {
-    ghost data = { data_as (λ t. (t.id, t.kind, t.x, t.y, t.health, t.is_asleep, t.target))
-        (λ p. (
-          record {
-            id = p.0;
-            kind = p.1;
-            x = p.2;
-            y = p.3;
-            health = p.4;
-            is_asleep = p.5;
-            target
-                = p.6;
-          },
-          refl,
-        )) (λ t. refl) ⟦<Parts as Shaped>⟧.data };
+    ghost data = { data_as (λ t. (t.id, t.kind, t.x, t.y, t.health, t.is_asleep, t.target)) (λ p. (
+      record {
+        id = p.0;
+        kind = p.1;
+        x = p.2;
+        y = p.3;
+        health = p.4;
+        is_asleep = p.5;
+        target = p.6;
+      },
+      refl,
+    )) (λ t. refl) ⟦<Parts as Shaped>⟧.data };
 
     fn told(&self) {
         self.id.told();
