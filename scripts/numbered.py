@@ -19,6 +19,7 @@ MOST_IN_PLACE = 48
 MOST_FOUND = 1
 
 OPENING = """//! `$simple` is written by the numbers of its variants. What is below its declaration was written by `scripts/new_type`.
+ghost use Rattle.std.specs.Prelude.{◌≡◌};
 ghost use Rattle.bitcode.specs.ByHand.{$by_hand};
 ghost use Rattle.$crate.specs.declared.$module.$ghost.{$ghost};
 
@@ -357,7 +358,7 @@ class Numbered:
 
     def opening(self, uses, by_hand=()):
         """What the file has up to the variants' coders, with these lines and names besides those of all such files."""
-        by_hand = {*by_hand, *"columns_in each_variant enum_data is_variant last_payload payload_and payloads_in refl ◌≡◌".split()}
+        by_hand = {*by_hand, *"columns_in each_variant enum_data is_variant last_payload payload_and payloads_in refl".split()}
 
         def numbered(number, variant):
             names = names_of(variant)

@@ -1,7 +1,8 @@
 //! `StateOf2` is written by the numbers of its variants. What is below its declaration was written by
 //! `scripts/new_type`.
+ghost use Rattle.std.specs.Prelude.{◌≡◌};
 ghost use Rattle.bitcode.specs.ByHand.{each_variant, enum_data, is_variant, last_payload, of_one_of_3, payload_and};
-ghost use Rattle.bitcode.specs.ByHand.{payloads_in, refl, ◌≡◌};
+ghost use Rattle.bitcode.specs.ByHand.{payloads_in, refl};
 ghost use Rattle.bitcode_changed_types.specs.declared.state_of2.StateOf2.{StateOf2};
 
 use bitcode::own::{

@@ -1,6 +1,7 @@
 //! `Two` is written by the numbers of its variants. What is below its declaration was written by `scripts/new_type`.
+ghost use Rattle.std.specs.Prelude.{◌≡◌};
 ghost use Rattle.bitcode.specs.ByHand.{columns_in, each_variant, enum_data, is_variant, last_payload, of_one_of_2};
-ghost use Rattle.bitcode.specs.ByHand.{payload_and, payloads_in, refl, ◌≡◌};
+ghost use Rattle.bitcode.specs.ByHand.{payload_and, payloads_in, refl};
 ghost use Rattle.bitcode_own_types.specs.declared.two.Two.{Two};
 
 use bitcode::own::{
