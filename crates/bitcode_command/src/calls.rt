@@ -1,6 +1,8 @@
 //! The calls of the command.
+use crate::column::Column;
 use crate::failure::Failure;
-use crate::files::{read_bytes, read_text, write_bytes};
+use crate::fault::Fault;
+use crate::files::{read_bytes, text_of, write_bytes};
 use crate::format::Format;
 use crate::from_json::from_json;
 use crate::json_text::parse;
@@ -12,9 +14,10 @@ use crate::table::{table, table_json};
 use crate::to_json::to_json;
 use bitcode_sealed::bytes::seal_bytes;
 use bitcode_sealed::label::Label;
+use bitcode_untyped::value::Value;
 use clap::ArgMatches;
 use json::Scratch;
-use std::alloc::Global;
+use std::alloc::{AllocError, Global};
 use std::rt::Files;
 
 // The types of the schema file.
@@ -23,10 +26,16 @@ fn types_of(
     words: &ArgMatches<'_>,
 ) -> Result<Types, Failure> {
     let path = words.get_str("schema").unwrap_or("");
-    let text = read_text(rt, Some(path), false)?;
-    match read_schema(rt.alloc(), &text) {
+    let bytes = read_bytes(rt, Some(path), false)?;
+    read_types(rt.alloc(), path, &bytes)
+}
+
+// The types that the bytes of a schema file declare.
+fn read_types(alloc: Global, path: &str, bytes: &[u8]) -> Result<Types, Failure> {
+    let text = text_of(alloc, Some(path), bytes)?;
+    match read_schema(alloc, text) {
         Ok(types) => Ok(types),
-        Err(fault) => Err(Failure::of_schema(rt.alloc(), path, fault)),
+        Err(fault) => Err(Failure::of_schema(alloc, path, fault)),
     }
 }
 
@@ -64,26 +73,107 @@ fn limit_of(words: &ArgMatches<'_>) -> usize {
     words.get_one::<usize>("limit").unwrap_or(0)
 }
 
+// The types of a schema file, and their format.
+#[derive(Drop)]
+struct Typed {
+    types: Types,
+    format: Format,
+}
+
+// What a call with a schema file is given.
+#[derive(Drop)]
+struct Given {
+    typed: Typed,
+    bytes: Vec<u8>,
+}
+
+// The types and their format.
+fn read_typed(
+    rt: &(impl AllocGlobal + Files + Input + Eprint),
+    words: &ArgMatches<'_>,
+    second: bool,
+) -> Result<Typed, Failure> {
+    let types = types_of(rt, words)?;
+    let format = format_of(rt.alloc(), words, &types, second)?;
+    Ok(Typed { types, format })
+}
+
+// The types, their format, and the bytes of the file.
+fn read_given(
+    rt: &(impl AllocGlobal + Files + Input + Eprint),
+    words: &ArgMatches<'_>,
+    second: bool,
+    shows: bool,
+) -> Result<Given, Failure> {
+    let typed = read_typed(rt, words, second)?;
+    let bytes = read_bytes(rt, words.get_str("file"), shows)?;
+    Ok(Given { typed, bytes })
+}
+
+// Tells of the seal on standard output, if there is one.
+fn print_seal(rt: &(impl AllocGlobal + Print), part: &Part<'_>) -> Result<(), Failure> {
+    if let Some(line) = part.line(rt.alloc())? {
+        println!(rt; "{line}")?;
+    }
+    Ok(())
+}
+
+// The same on standard error.
+fn eprint_seal(rt: &(impl AllocGlobal + Eprint), part: &Part<'_>) -> Result<(), Failure> {
+    if let Some(line) = part.line(rt.alloc())? {
+        eprintln!(rt; "{line}")?;
+    }
+    Ok(())
+}
+
 /// Writes values as JSON, each in a line.
 pub fn decode(
     rt: &(impl AllocGlobal + Files + Input + Print + Eprint),
     words: &ArgMatches<'_>,
     shows: bool,
 ) -> Result<(), Failure> {
-    let alloc = rt.alloc();
-    let types = types_of(rt, words)?;
-    let format = format_of(alloc, words, &types, words.get_flag("second"))?;
-    let bytes = read_bytes(rt, words.get_str("file"), shows)?;
-    let mut out = Vec::new(alloc);
-    for part in &parts_of(alloc, words, &bytes)? {
-        if let Some(line) = part.line(alloc)? {
-            eprintln!(rt; "{line}")?;
-        }
-        let value = format.decode(alloc, part.bytes, limit_of(words))?;
-        out = to_json(alloc, &types, &value, out)?;
-        out.push(b'\n')?;
+    let given = read_given(rt, words, words.get_flag("second"), shows)?;
+    let parts = parts_of(rt.alloc(), words, &given.bytes)?;
+    let lines = decode_parts(rt, &given.typed, &parts, limit_of(words))?;
+    write_bytes(rt, words.get_str("output"), &lines)
+}
+
+// The lines of the values.
+fn decode_parts(
+    rt: &(impl AllocGlobal + Eprint),
+    typed: &Typed,
+    parts: &[Part<'_>],
+    limit: usize,
+) -> Result<Vec<u8>, Failure> {
+    let mut lines = Vec::new(rt.alloc());
+    for part in parts {
+        eprint_seal(rt, part)?;
+        lines = decode_part(rt.alloc(), typed, part.bytes, limit, lines)?;
     }
-    write_bytes(rt, words.get_str("output"), &out)
+    Ok(lines)
+}
+
+// Puts the line of a value behind others.
+fn decode_part(
+    alloc: Global,
+    typed: &Typed,
+    bytes: &[u8],
+    limit: usize,
+    lines: Vec<u8>,
+) -> Result<Vec<u8>, Failure> {
+    let value = typed.format.decode(alloc, bytes, limit)?;
+    push_line(alloc, &typed.types, &value, lines)
+}
+
+fn push_line(
+    alloc: Global,
+    types: &Types,
+    value: &Value,
+    lines: Vec<u8>,
+) -> Result<Vec<u8>, Failure> {
+    let mut lines = to_json(alloc, types, value, lines)?;
+    lines.push(b'\n')?;
+    Ok(lines)
 }
 
 /// Encodes a value that is given as JSON.
@@ -92,15 +182,23 @@ pub fn encode(
     words: &ArgMatches<'_>,
     shows: bool,
 ) -> Result<(), Failure> {
-    let alloc = rt.alloc();
-    let types = types_of(rt, words)?;
-    let format = format_of(alloc, words, &types, words.get_flag("second"))?;
-    let text = read_text(rt, words.get_str("file"), shows)?;
-    let mut scratch = Scratch::new(alloc);
-    let json = parse(alloc, &text, &mut scratch)?;
-    let value = from_json(alloc, &types, &json, format.is_second())?;
-    let bytes = format.encode(alloc, &value)?;
+    let given = read_given(rt, words, words.get_flag("second"), shows)?;
+    let text = text_of(rt.alloc(), words.get_str("file"), &given.bytes)?;
+    let bytes = encode_text(rt.alloc(), &given.typed, text)?;
     write_bytes(rt, words.get_str("output"), &bytes)
+}
+
+// The bytes of the value that is given as JSON.
+fn encode_text(alloc: Global, typed: &Typed, text: &str) -> Result<Vec<u8>, Failure> {
+    let value = value_of(alloc, typed, text)?;
+    typed.format.encode(alloc, &value)
+}
+
+// The value that is given as JSON.
+fn value_of(alloc: Global, typed: &Typed, text: &str) -> Result<Value, Fault> {
+    let mut scratch = Scratch::new(alloc);
+    let json = parse(alloc, text, &mut scratch)?;
+    from_json(alloc, &typed.types, &json, typed.format.is_second())
 }
 
 /// Tells in a line whether the file has a value of the type.
@@ -109,19 +207,26 @@ pub fn check(
     words: &ArgMatches<'_>,
     shows: bool,
 ) -> Result<(), Failure> {
-    let alloc = rt.alloc();
-    let types = types_of(rt, words)?;
-    let format = format_of(alloc, words, &types, words.get_flag("second"))?;
-    let bytes = read_bytes(rt, words.get_str("file"), shows)?;
-    let parts = parts_of(alloc, words, &bytes)?;
-    for part in &parts {
-        if let Some(line) = part.line(alloc)? {
-            println!(rt; "{line}")?;
-        }
-        format.check(alloc, part.bytes, limit_of(words), words.get_flag("strict"))?;
-    }
-    let count = bytes.len();
+    let given = read_given(rt, words, words.get_flag("second"), shows)?;
+    let parts = parts_of(rt.alloc(), words, &given.bytes)?;
+    check_parts(rt, words, &given.typed.format, &parts)?;
+    let count = given.bytes.len();
     println!(rt; "ok: {count} bytes")?;
+    Ok(())
+}
+
+// Accepts the values, and tells of the seal of each before it.
+fn check_parts(
+    rt: &(impl AllocGlobal + Print),
+    words: &ArgMatches<'_>,
+    format: &Format,
+    parts: &[Part<'_>],
+) -> Result<(), Failure> {
+    let strict = words.get_flag("strict");
+    for part in parts {
+        print_seal(rt, part)?;
+        format.check(rt.alloc(), part.bytes, limit_of(words), strict)?;
+    }
     Ok(())
 }
 
@@ -131,29 +236,66 @@ pub fn show(
     words: &ArgMatches<'_>,
     shows: bool,
 ) -> Result<(), Failure> {
-    let alloc = rt.alloc();
-    let types = types_of(rt, words)?;
-    let format = format_of(alloc, words, &types, false)?;
-    let bytes = read_bytes(rt, words.get_str("file"), shows)?;
-    let parts = parts_of(alloc, words, &bytes)?;
+    let given = read_given(rt, words, false, shows)?;
+    let parts = parts_of(rt.alloc(), words, &given.bytes)?;
+    show_parts(rt, words, &given.typed.format, &parts)
+}
+
+// Shows the columns of the values.
+fn show_parts(
+    rt: &(impl AllocGlobal + Files + Print),
+    words: &ArgMatches<'_>,
+    format: &Format,
+    parts: &[Part<'_>],
+) -> Result<(), Failure> {
     if parts.len() > 1 && words.get_str("svg").is_some() {
-        return Err(Failure::of_words(alloc, "`--svg` writes a picture of one value"));
+        return Err(Failure::of_words(rt.alloc(), "`--svg` writes a picture of one value"));
     }
-    for part in &parts {
-        let found = format.columns(alloc, part.bytes)?;
-        if let Some(path) = words.get_str("svg") {
-            write_bytes(rt, Some(path), picture(alloc, &found)?.as_bytes())?;
-        }
-        if words.get_flag("json") {
-            write_bytes(rt, None, &table_json(alloc, &found)?)?;
-            continue;
-        }
-        if let Some(line) = part.line(alloc)? {
-            println!(rt; "{line}")?;
-        }
-        write_bytes(rt, None, table(alloc, &found)?.as_bytes())?;
+    for part in parts {
+        let found = format.columns(rt.alloc(), part.bytes)?;
+        show_part(rt, words, part, &found)?;
     }
     Ok(())
+}
+
+// Shows the columns of a value, and writes their picture before that if one is wanted.
+fn show_part(
+    rt: &(impl AllocGlobal + Files + Print),
+    words: &ArgMatches<'_>,
+    part: &Part<'_>,
+    found: &[Column],
+) -> Result<(), Failure> {
+    if let Some(path) = words.get_str("svg") {
+        write_picture(rt, path, found)?;
+    }
+    if words.get_flag("json") {
+        print_json(rt, found)
+    } else {
+        print_seal(rt, part)?;
+        print_table(rt, found)
+    }
+}
+
+// Writes the picture of the columns to a file.
+fn write_picture(
+    rt: &(impl AllocGlobal + Files + Print),
+    path: &str,
+    found: &[Column],
+) -> Result<(), Failure> {
+    let picture = picture(rt.alloc(), found)?;
+    write_bytes(rt, Some(path), picture.as_bytes())
+}
+
+// Writes the columns as JSON.
+fn print_json(rt: &(impl AllocGlobal + Files + Print), found: &[Column]) -> Result<(), Failure> {
+    let json = table_json(rt.alloc(), found)?;
+    write_bytes(rt, None, &json)
+}
+
+// Writes the columns as a table.
+fn print_table(rt: &(impl AllocGlobal + Files + Print), found: &[Column]) -> Result<(), Failure> {
+    let table = table(rt.alloc(), found)?;
+    write_bytes(rt, None, table.as_bytes())
 }
 
 // The number of a kind, in decimal or behind `0x` in hexadecimal digits.
@@ -176,9 +318,15 @@ pub fn seal(
     };
     let version = words.get_one::<u16>("version").unwrap_or(0);
     let bytes = read_bytes(rt, words.get_str("file"), shows)?;
-    let mut out = Vec::new(alloc);
-    seal_bytes(Label { kind, version }, &bytes, &mut out)?;
+    let out = sealed(alloc, Label { kind, version }, &bytes)?;
     write_bytes(rt, words.get_str("output"), &out)
+}
+
+// The bytes with their header and checksum.
+fn sealed(alloc: Global, label: Label, bytes: &[u8]) -> Result<Vec<u8>, Failure> {
+    let mut out = Vec::new(alloc);
+    seal_bytes(label, bytes, &mut out)?;
+    Ok(out)
 }
 
 /// Checks the header and the checksum, and writes the bytes between them.
@@ -187,11 +335,21 @@ pub fn open(
     words: &ArgMatches<'_>,
     shows: bool,
 ) -> Result<(), Failure> {
-    let alloc = rt.alloc();
     let bytes = read_bytes(rt, words.get_str("file"), shows)?;
+    let out = opened(rt.alloc(), &bytes, words.get_flag("many"))?;
+    write_bytes(rt, words.get_str("output"), &out)
+}
+
+// The bytes of the sealed values, one behind the other.
+fn opened(alloc: Global, bytes: &[u8], many: bool) -> Result<Vec<u8>, Failure> {
+    let parts = sealed_parts(alloc, bytes, many)?;
+    Ok(joined(alloc, &parts)?)
+}
+
+fn joined(alloc: Global, parts: &[Part<'_>]) -> Result<Vec<u8>, AllocError> {
     let mut out = Vec::new(alloc);
-    for part in &sealed_parts(alloc, &bytes, words.get_flag("many"))? {
+    for part in parts {
         out.extend_from_slice(part.bytes)?;
     }
-    write_bytes(rt, words.get_str("output"), &out)
+    Ok(out)
 }

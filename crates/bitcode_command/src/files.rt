@@ -1,9 +1,10 @@
 //! Reading what a call is given, and writing what it makes.
 use crate::failure::Failure;
+use std::alloc::Global;
 use std::fs::{File, OpenFile};
 use std::io::{Read, Write};
 use std::rt::Files;
-use std::{fs, io};
+use std::{fs, io, str};
 
 // How many bytes are read at once, and after how many a terminal shows the progress.
 const CHUNK: usize = 1 << 16;
@@ -67,18 +68,13 @@ fn show(rt: &impl Eprint, bytes: usize) -> io::Result<()> {
     eprint!(rt; "\r{megabytes} MB read")
 }
 
-/// The text of a file, or of standard input.
-pub fn read_text(
-    rt: &(impl AllocGlobal + Files + Input + Eprint),
-    path: Option<&str>,
-    shows: bool,
-) -> Result<String, Failure> {
-    let bytes = read_bytes(rt, path, shows)?;
-    match String::from_utf8(bytes) {
+/// The text that was read of a file, or of standard input.
+pub fn text_of<'a>(alloc: Global, path: Option<&str>, bytes: &'a [u8]) -> Result<&'a str, Failure> {
+    match str::from_utf8(bytes) {
         Ok(text) => Ok(text),
         Err(_) => {
             let error = io::Error::from(io::ErrorKind::InvalidData);
-            Err(Failure::of_file(rt.alloc(), path.unwrap_or(STANDARD_INPUT), error))
+            Err(Failure::of_file(alloc, path.unwrap_or(STANDARD_INPUT), error))
         }
     }
 }

@@ -126,15 +126,49 @@ const VERSION: Word = Word {
     help: "The version of the type",
 };
 
+// A call, and the words that it takes.
+struct Call {
+    name: &'static str,
+    about: &'static str,
+    words: &'static [Word],
+}
+
+const CALLS: [Call; 6] = [
+    Call {
+        name: "columns",
+        about: "Shows where each column is, and how it is packed",
+        words: &[FILE, SCHEMA, SEALED, MANY, JSON, SVG],
+    },
+    Call {
+        name: "decode",
+        about: "Writes the value as JSON",
+        words: &[FILE, SCHEMA, OUTPUT, SECOND, NODES, SEALED, MANY],
+    },
+    Call {
+        name: "encode",
+        about: "Encodes a value that is given as JSON",
+        words: &[FILE, SCHEMA, OUTPUT, SECOND],
+    },
+    Call {
+        name: "check",
+        about: "Tells in a line whether the file has a value of the type, or which column is at fault",
+        words: &[FILE, SCHEMA, SECOND, NODES, SEALED, MANY, STRICT],
+    },
+    Call {
+        name: "seal",
+        about: "Puts a header and a checksum around the bytes",
+        words: &[FILE, OUTPUT, KIND, VERSION],
+    },
+    Call {
+        name: "open",
+        about: "Checks the header and the checksum, and writes the bytes between them",
+        words: &[FILE, OUTPUT, MANY],
+    },
+];
+
 /// The command and its calls.
 pub fn command<'a>(alloc: Global) -> Result<Command<'a>, AllocError> {
-    let mut calls = Vec::new(alloc);
-    calls.push(columns(alloc)?)?;
-    calls.push(decode(alloc)?)?;
-    calls.push(encode(alloc)?)?;
-    calls.push(check(alloc)?)?;
-    calls.push(seal(alloc)?)?;
-    calls.push(open(alloc)?)?;
+    let calls = calls(alloc)?;
     Command::new(alloc, "bitcode")
         .about("Shows, checks and converts what bitcode encodes.")
         .after_help(STATUSES)
@@ -142,15 +176,18 @@ pub fn command<'a>(alloc: Global) -> Result<Command<'a>, AllocError> {
         .subcommands(calls)
 }
 
-// A call that takes these words.
-fn call<'a>(
-    alloc: Global,
-    name: &'a str,
-    about: &'a str,
-    words: &[Word],
-) -> Result<Command<'a>, AllocError> {
-    let mut command = Command::new(alloc, name).about(about);
-    for word in words {
+fn calls<'a>(alloc: Global) -> Result<Vec<Command<'a>>, AllocError> {
+    let mut calls = Vec::new(alloc);
+    for call in &CALLS {
+        calls.push(call_of(alloc, call)?)?;
+    }
+    Ok(calls)
+}
+
+// A call, as the reader of words knows it.
+fn call_of<'a>(alloc: Global, call: &Call) -> Result<Command<'a>, AllocError> {
+    let mut command = Command::new(alloc, call.name).about(call.about);
+    for word in call.words {
         command = command.arg(arg(alloc, *word))?;
     }
     Ok(command)
@@ -158,61 +195,49 @@ fn call<'a>(
 
 // A word, as the reader of words knows it.
 fn arg<'a>(alloc: Global, word: Word) -> Arg<'a> {
-    let mut arg = Arg::new(alloc, word.name).help(word.help);
-    if let Some(short) = word.short {
-        arg = arg.short(short);
-    }
     match word.kind {
-        WordKind::File => arg.value_name("FILE"),
-        WordKind::Flag => arg.long(word.name).action(ArgAction::SetTrue),
-        WordKind::Text(value) => arg.long(word.name).value_name(value),
-        WordKind::Needed(value) => arg.long(word.name).value_name(value).required(true),
-        WordKind::Nodes => arg
-            .long(word.name)
-            .value_name("NODES")
-            .value_parser(value_parser!(u64))
-            .default_value(LIMIT),
-        WordKind::Version => arg
-            .long(word.name)
-            .value_name("VERSION")
-            .value_parser(value_parser!(u16))
-            .required(true),
+        WordKind::File => file(alloc, word),
+        WordKind::Flag => flag(alloc, word),
+        WordKind::Text(value) => text(alloc, word, value),
+        WordKind::Needed(value) => text(alloc, word, value).required(true),
+        WordKind::Nodes => nodes(alloc, word),
+        WordKind::Version => version(alloc, word),
     }
 }
 
-fn columns<'a>(alloc: Global) -> Result<Command<'a>, AllocError> {
-    let about = "Shows where each column is, and how it is packed";
-    call(
-        alloc,
-        "columns",
-        about,
-        &[FILE, SCHEMA, SEALED, MANY, JSON, SVG],
-    )
+fn file<'a>(alloc: Global, word: Word) -> Arg<'a> {
+    Arg::new(alloc, word.name)
+        .help(word.help)
+        .value_name("FILE")
 }
 
-fn decode<'a>(alloc: Global) -> Result<Command<'a>, AllocError> {
-    let words = [FILE, SCHEMA, OUTPUT, SECOND, NODES, SEALED, MANY];
-    call(alloc, "decode", "Writes the value as JSON", &words)
+fn flag<'a>(alloc: Global, word: Word) -> Arg<'a> {
+    Arg::new(alloc, word.name)
+        .help(word.help)
+        .long(word.name)
+        .action(ArgAction::SetTrue)
 }
 
-fn encode<'a>(alloc: Global) -> Result<Command<'a>, AllocError> {
-    let about = "Encodes a value that is given as JSON";
-    call(alloc, "encode", about, &[FILE, SCHEMA, OUTPUT, SECOND])
+// A word with a text behind it.
+fn text<'a>(alloc: Global, word: Word, value: &'a str) -> Arg<'a> {
+    let arg = Arg::new(alloc, word.name)
+        .help(word.help)
+        .long(word.name)
+        .value_name(value);
+    match word.short {
+        Some(short) => arg.short(short),
+        None => arg,
+    }
 }
 
-fn check<'a>(alloc: Global) -> Result<Command<'a>, AllocError> {
-    let about =
-        "Tells in a line whether the file has a value of the type, or which column is at fault";
-    let words = [FILE, SCHEMA, SECOND, NODES, SEALED, MANY, STRICT];
-    call(alloc, "check", about, &words)
+fn nodes<'a>(alloc: Global, word: Word) -> Arg<'a> {
+    text(alloc, word, "NODES")
+        .value_parser(value_parser!(u64))
+        .default_value(LIMIT)
 }
 
-fn seal<'a>(alloc: Global) -> Result<Command<'a>, AllocError> {
-    let about = "Puts a header and a checksum around the bytes";
-    call(alloc, "seal", about, &[FILE, OUTPUT, KIND, VERSION])
-}
-
-fn open<'a>(alloc: Global) -> Result<Command<'a>, AllocError> {
-    let about = "Checks the header and the checksum, and writes the bytes between them";
-    call(alloc, "open", about, &[FILE, OUTPUT, MANY])
+fn version<'a>(alloc: Global, word: Word) -> Arg<'a> {
+    text(alloc, word, "VERSION")
+        .value_parser(value_parser!(u16))
+        .required(true)
 }
