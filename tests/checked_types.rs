@@ -1,11 +1,11 @@
 //! Structs with a check: what the check refuses is refused, and never made, also of random bytes. Structs with skipped
 //! fields: these are not written.
 use bitcode::{Error, Reason, decode, decode_strict, encode};
-use bitcode_private_types::decoded::{decode_grade, decode_known, decode_percent, decode_span};
-use bitcode_private_types::grade::Grade;
-use bitcode_private_types::known::Known;
-use bitcode_private_types::percent::Percent;
-use bitcode_private_types::span::Span;
+use bitcode_changed_types::decoded::{decode_grade, decode_known, decode_percent, decode_span};
+use bitcode_changed_types::grade::Grade;
+use bitcode_changed_types::known::Known;
+use bitcode_changed_types::percent::Percent;
+use bitcode_changed_types::span::Span;
 use std::alloc::Global;
 use std::collections::BTreeMap;
 

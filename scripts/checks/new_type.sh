@@ -23,7 +23,7 @@ kept() {
 kept bitcode_own_types scripts/own_types/kept.txt
 kept bitcode_large_types scripts/own_types/large.txt
 kept bitcode_changed_types scripts/own_types/changed.txt
-kept bitcode_private_types scripts/own_types/private.txt
+kept bitcode_changed_types scripts/own_types/private.txt
 for program in frames snapshots record_cache column_report; do
   kept "$program" "scripts/own_types/$program.txt"
 done

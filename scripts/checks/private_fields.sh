@@ -14,7 +14,7 @@ while IFS='|' read -r reason line; do
 #![tactic(auto)]
 use bitcode::own::{Decoded, FromDecoded};
 use bitcode::{ConvertFrom, Error, decode};
-use bitcode_private_types::percent::Percent;
+use bitcode_changed_types::percent::Percent;
 
 fn main(rt: HostRuntime) -> Result<(), Error> {
     let alloc = rt.alloc();
@@ -23,7 +23,7 @@ fn main(rt: HostRuntime) -> Result<(), Error> {
 }
 PROGRAM
   rm -rf "$work/crates/stranger" && sed -i '/^stranger: /d' "$work/crates.txt"
-  add_program "$work" stranger "$work/main.rt" "bitcode bitcode_private_types" || exit 2
+  add_program "$work" stranger "$work/main.rt" "bitcode bitcode_changed_types" || exit 2
   (cd "$work/crates/stranger" && "$try" --steps 1000 --seconds 7200 >"$work/log" 2>&1)
   grep -qF "$reason" "$work/log" || { echo "private_fields: $line: $(grep -m 1 -E 'error|run=' "$work/log")"; wrong=1; }
 done <<'LINES'

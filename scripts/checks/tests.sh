@@ -9,7 +9,7 @@ trap 'rm -rf "$work"' EXIT
 copy_libraries "$work" || exit 2
 mkdir -p "$work/crates/tests" && cp -r tests "$work/crates/tests/src" || exit 2
 find "$work/crates/tests/src" -name '*.rs' -exec bash -c 'mv "$1" "${1%.rs}.rt"' _ {} \; || exit 2
-uses="bitcode_schema bitcode_own_types bitcode_large_types bitcode_changed_types bitcode_private_types bitcode_recursive_types"
+uses="bitcode_schema bitcode_own_types bitcode_large_types bitcode_changed_types bitcode_recursive_types"
 echo "tests: bitcode bitcode_test_support $uses arrayvec uuid" >>"$work/crates.txt"
 (cd "$work/crates/tests" && "$try" --test --steps 1000 --seconds 7200 >"$work/log" 2>&1)
 count=$(cat tests/*.rs tests/*/*.rs tests/*/*/*.rs | grep -c '^#\[test\]$')

@@ -66,7 +66,7 @@ pub fn first_job_again(alloc: Global, before: &JobOf1) -> Result<Job, OpenError>
 {
     let bytes = seal(alloc, FIRST_JOB, before)?;
     let sealed = bytes.as_slice();
-    let again: Result<Job, OpenError> = open_any(alloc, &EXPECTED, sealed);
+    let again = open_job(alloc, sealed);
     earlier_comes_back::<Version<1>, Job>(before, FIRST_JOB, &EXPECTED, sealed, &again);
     again
 }
