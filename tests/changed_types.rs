@@ -31,6 +31,7 @@ fn job(alloc: Global, number: u64, tries: u8) -> Result<Job, OpenError> {
         number,
         name: String::from_str(alloc, "name")?,
         tries,
+        weight: 2,
         delay: None,
     })
 }
@@ -56,6 +57,7 @@ fn a_struct_is_opened_of_each_version(rt: HostRuntime) -> Result<(), OpenError> 
         number: 9,
         name: String::from_str(alloc, "name")?,
         tries: 1,
+        weight: 4,
         delay: Some(30),
     };
     let bytes = seal(alloc, JOB, &newest)?;

@@ -9,37 +9,40 @@ use bitcode::sealed::{
 use bitcode::{ConvertFrom, DecodeOwned, Error, HasDecoder, HasEncoder, Shaped};
 use std::alloc::Global;
 
-/// A piece of work. Version 1 had no tries; versions 1 and 2 had the host and no delay.
+/// A piece of work. Version 1 had no tries; versions 1 and 2 had the host, and neither a weight nor a delay.
 #[derive(Debug, PartialEq, Drop)]
 pub struct Job {
     pub number: u64,
     pub name: String,
     pub tries: u8,
+    pub weight: u8,
     pub delay: Option<u32>,
 }
 
+type Parts = (u64, String, u8, u8, Option<u32>);
+
 impl Shaped for Job {
-    ghost data = { data_as (λ t. (t.number, t.name, t.tries, t.delay))
-        (λ p. (record { number = p.0; name = p.1; tries = p.2; delay = p.3 }, refl)) (λ t. refl)
-        ⟦<(u64, String, u8, Option<u32>) as Shaped>⟧.data };
+    ghost data = { data_as (λ t. (t.number, t.name, t.tries, t.weight, t.delay))
+        (λ p. (record { number = p.0; name = p.1; tries = p.2; weight = p.3; delay = p.4 }, refl))
+        (λ t. refl) ⟦<Parts as Shaped>⟧.data };
 
     fn told(&self) {
         self.number.told();
         self.name.told();
         self.tries.told();
+        self.weight.told();
         self.delay.told();
     }
 }
 
-impl ConvertFrom<(u64, String, u8, Option<u32>)> for Job {
-    fn convert_from(
-        _alloc: Global,
-        (number, name, tries, delay): (u64, String, u8, Option<u32>),
-    ) -> Result<Self, Error> {
+impl ConvertFrom<Parts> for Job {
+    fn convert_from(_alloc: Global, parts: Parts) -> Result<Self, Error> {
+        let (number, name, tries, weight, delay) = parts;
         Ok(Job {
             number,
             name,
             tries,
+            weight,
             delay,
         })
     }
@@ -78,6 +81,16 @@ impl HasField<2> for Job {
 }
 
 impl HasField<3> for Job {
+    type Field = u8;
+
+    ghost field = { λ t. t.weight };
+
+    fn field(&self) -> &u8 {
+        &self.weight
+    }
+}
+
+impl HasField<4> for Job {
     type Field = Option<u32>;
 
     ghost field = { λ t. t.delay };
@@ -87,10 +100,10 @@ impl HasField<3> for Job {
     }
 }
 
-type Fields = <((u64, String), (u8, Option<u32>)) as HasEncoder>::Encoder;
+type Fields = <((u64, String), (u8, (u8, Option<u32>))) as HasEncoder>::Encoder;
 
 impl InFields<Fields> for Job {
-    type Numbers = ((Nth<0>, Nth<1>), (Nth<2>, Nth<3>));
+    type Numbers = ((Nth<0>, Nth<1>), (Nth<2>, (Nth<3>, Nth<4>)));
 
     type Inside = <Job as HasDecoder<'static>>::Decoder;
 
@@ -99,7 +112,7 @@ impl InFields<Fields> for Job {
     ghost of_fields = { λ d h. h };
 
     ghost same_listings = { λ t. pair_alike (pair_alike field_alike field_alike)
-        (pair_alike field_alike field_alike) };
+        (pair_alike field_alike (pair_alike field_alike field_alike)) };
 }
 
 impl HasEncoder for Job {
@@ -107,7 +120,7 @@ impl HasEncoder for Job {
 }
 
 impl<'a> HasDecoder<'a> for Job {
-    type Decoder = DecoderOfFields<'a, (u64, String, u8, Option<u32>)>;
+    type Decoder = DecoderOfFields<'a, Parts>;
 }
 
 impl DecodeOwned for Job {}
@@ -118,7 +131,7 @@ pub type JobOf2 = (u64, String, String, u8);
 impl Earlier<2> for Job {
     type Before = JobOf2;
 
-    ghost is_upgrade = { λ b t. (t.number ≡ b.0) × (t.name ≡ b.2) × (t.tries ≡ b.3)
+    ghost is_upgrade = { λ b t. (t.number ≡ b.0) × (t.name ≡ b.2) × (t.tries ≡ b.3) × (t.weight ≡ 2)
         × (⟦<Option<u32> as Default>⟧.is_default t.delay) };
 
     fn upgrade(_alloc: Global, (number, _host, name, tries): JobOf2) -> Result<Self, Error> {
@@ -126,6 +139,7 @@ impl Earlier<2> for Job {
             number,
             name,
             tries,
+            weight: 2,
             delay: Default::default(),
         })
     }
@@ -158,7 +172,7 @@ pub type JobOf1 = (u64, String, String);
 impl Earlier<1> for Job {
     type Before = JobOf1;
 
-    ghost is_upgrade = { λ b t. (t.number ≡ b.0) × (t.name ≡ b.2) × (t.tries ≡ 5)
+    ghost is_upgrade = { λ b t. (t.number ≡ b.0) × (t.name ≡ b.2) × (t.tries ≡ 5) × (t.weight ≡ 2)
         × (⟦<Option<u32> as Default>⟧.is_default t.delay) };
 
     fn upgrade(_alloc: Global, (number, _host, name): JobOf1) -> Result<Self, Error> {
@@ -166,6 +180,7 @@ impl Earlier<1> for Job {
             number,
             name,
             tries: 5,
+            weight: 2,
             delay: Default::default(),
         })
     }
