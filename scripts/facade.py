@@ -29,11 +29,7 @@ def with_own(text, own=None):
 
 
 def with_names(text, path, names):
-    """The text with these names in its `ghost use` of the path, or in a new one, but for those that it has of ByHand."""
-    of_by_hand = re.findall(r"(?m)^ghost use Rattle\.bitcode\.specs\.ByHand\.\{([^}]*)\};", text)
-    names = {*names} - {name for listed in of_by_hand for name in listed.split(", ")}
-    if not names:
-        return text
+    """The text with these names in its `ghost use` of the path, or in a new one."""
     pattern = re.compile(r"(?m)^ghost use " + re.escape(path) + r"\.\{([^}]*)\};")
     found = pattern.search(text)
     if found:
