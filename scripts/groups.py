@@ -114,8 +114,8 @@ def lines_of(groups):
         "".join(f"pub mod {group.module};\n" for group in groups)
         + "-- specs/Lib.antt\n"
         + "".join(f"pub mod {group.specs}\n" for group in groups)
-        + "-- proofs/Lib.antt\n"
-        + "".join(f"pub mod {group.lemmas}\n" for group in groups)
+        + ("-- proofs/Lib.antt\n" if any(group.lemmas for group in groups) else "")
+        + "".join(f"pub mod {group.lemmas}\n" for group in groups if group.lemmas)
     )
 
 

@@ -24,12 +24,12 @@ WORDS = {
     "docs/ARCHITECTURE.md": 1910,
     "docs/CODERS.md": 2500,
     "docs/COMMAND.md": 600,
-    "docs/DECISIONS.md": 4150,
+    "docs/DECISIONS.md": 4170,
     "docs/DIFFERENCES.md": 1530,
     "docs/EXAMPLES.md": 1200,
-    "docs/FORMAT.md": 3600,
+    "docs/FORMAT.md": 3640,
     "docs/GUIDE.md": 3600,
-    "docs/PROMISES.md": 4600,
+    "docs/PROMISES.md": 4650,
     "docs/PROVING.md": 1050,
     "docs/SCHEMAS.md": 470,
     "docs/SEALED.md": 1050,
@@ -37,7 +37,7 @@ WORDS = {
     "docs/TESTING.md": 1330,
     "docs/TOOLCHAIN.md": 1650,
 }
-WORDS_IN_ALL = 31600
+WORDS_IN_ALL = 31800
 COLUMNS = 120
 HISTORY = "docs/HISTORY.md"
 COUNTED = "docs/TESTING.md"

@@ -8,9 +8,12 @@ variant with several fields, and one for the lists of a type.
 
 import re
 
-from declarations import Struct, fields_of
+from declarations import Parser, Struct, Type, fields_of
+from known_types import MOST_FIELDS
+from lengths import NUMBER, Sum
 from names import module_of
-from tokens import Refused
+from second_format_std import ADDRESSES, LISTS, RANGES, TEXTS, instead_of
+from tokens import Refused, Told
 
 LIBRARY = (
     "bitcode_memory bitcode_columns bitcode_int_columns bitcode_float_columns bitcode_shapes bitcode_coder bitcode_ints "
@@ -27,10 +30,13 @@ LEAVES = {
     "String": ("text_tree", "(λ s. text (string_bytes s))"),
     "f32": ("(float_tree binary32)", "(λ x. number (float_number binary32 x))"),
     "f64": ("(float_tree binary64)", "(λ x. number (float_number binary64 x))"),
+    "Ordering": ("ordering_tree", "ordering_datum"),
 }
+LEAVES |= {name: ("text_tree", f"(λ s. text ({word} s))") for name, word in TEXTS.items() if name != "CowStr"}
 LEAVES |= {name: (f"(natural_tree {width})", "natural") for name, width in UNSIGNED.items()}
 LEAVES |= {name: (f"(integer_tree {width})", "number") for name, width in SIGNED.items()}
-SOUND = {"bool": "tt", "char": "width_4", "String": "tt", "f32": "tt", "f64": "tt"}
+SOUND = {"bool": "tt", "char": "width_4", "String": "tt", "f32": "tt", "f64": "tt", "Ordering": "(tt, (tt, (tt, tt)))"}
+SOUND |= {name: "tt" for name in TEXTS}
 SOUND |= {name: f"width_{width}" for name, width in (UNSIGNED | SIGNED).items()}
 
 
@@ -44,13 +50,62 @@ HOLDERS = {"Box": "b.value", "Rc": "(rc_value b)", "Arc": "(arc_value b)", "Wrap
 
 def rust(type_):
     """The type as Rust writes it."""
+    if type_.kind == "own":
+        return type_.text
     if type_.kind == "reference":
         return f"&{type_.name or chr(39) + '_'} {rust(type_.parts[0])}"
     if type_.kind == "tuple":
         return "(" + ", ".join(map(rust, type_.parts)) + ("," if len(type_.parts) == 1 else "") + ")"
     if type_.kind == "lifetime":
         return type_.name
+    if type_.kind == "array":
+        return f"[{rust(type_.parts[0])}; {type_.name}]"
+    if type_.kind == "slice":
+        return f"[{rust(type_.parts[0])}]"
     return type_.name + (f"<{', '.join(map(rust, type_.parts))}>" if type_.parts else "")
+
+
+# Names of types for which the library has words as those that are made of a type's name, such as `text_tree`.
+LIBRARYS = set(
+    "array at bool char choice field float integer map natural never option ordering repeated result seq set text tuple "
+    "unit".split()
+)
+
+
+def word_of(name):
+    """The word for a type, of which the names of its definitions and functions are made."""
+    word = module_of(name)
+    return f"own_{word}" if word in LIBRARYS else word
+
+
+class Own:
+    """A type of the file that does not contain the one that has it. Its shape and its content have names."""
+
+    kind, parts = "own", ()
+
+    def __init__(self, type_, columns):
+        self.text, self.name, self.line = rust(type_), type_.name, type_.line
+        self.word, self.columns = word_of(type_.name), columns
+
+
+def own_in(type_, own):
+    """The type, with those of the file in it that are written before it. `own` says by names which have columns."""
+    if type_.kind == "path" and type_.name in own:
+        return Own(type_, own[type_.name])
+    if not any(isinstance(part, Type) for part in type_.parts):
+        return type_
+    return type_._replace(
+        parts=tuple(own_in(part, own) if isinstance(part, Type) else part for part in type_.parts)
+    )
+
+
+# In the logic, a tuple of more fields is a nest of pairs.
+MOST_FLAT = 12
+
+
+def field_in(value, place, count):
+    """A field of a tuple of so many, as a term."""
+    return f"{value}.{place}" if count <= MOST_FLAT else f"{value}{'.1' * place}.0"
 
 
 def is_text(type_):
@@ -90,11 +145,44 @@ def is_result(type_):
     return type_.kind == "path" and type_.name == "Result" and len(type_.parts) == 2
 
 
+def is_cow(type_):
+    """Whether it is a text that may borrow from the input."""
+    return inner_of(type_, "CowStr") and type_.parts[0].kind == "lifetime"
+
+
+def is_list(type_):
+    """Whether it is a list, other than a `Vec`."""
+    return any(inner_of(type_, name) for name in LISTS)
+
+
+def is_range(type_):
+    return any(inner_of(type_, name) for name in RANGES)
+
+
+def is_address(type_):
+    return type_.kind == "path" and not type_.parts and type_.name in ADDRESSES
+
+
+def written_as(type_):
+    """The type that an address is written as."""
+    return Parser(ADDRESSES[type_.name][0], Told()).type()
+
+
+def length_of(type_):
+    """The length of an array."""
+    if not NUMBER.fullmatch(type_.name):
+        raise Refused(type_.line, f"write the length `{type_.name}` as a number")
+    return Sum([type_.name], {}).value()
+
+
 class Part:
     """A field's type: a type of the group, a box, a list or a map of such, a box of one in an option, or any other."""
 
     def __init__(self, type_, group):
+        type_ = own_in(type_, group.own)
         self.type, self.rust, self.kind, self.of = type_, rust(type_), "other", None
+        # whether its elements are read by the function that reads it among other fields
+        self.is_inside = False
         inner = (
             type_.parts[0] if type_.kind == "path" and len(type_.parts) == 1 and type_.name in ("Box", "Vec") else None
         )
@@ -113,9 +201,7 @@ class Part:
             self.kind, self.of = "map", group.named[type_.parts[1].name]
         elif group.mentions(type_):
             raise Refused(
-                type_.line,
-                f"`{self.rust}` is not supported in a recursive type: write a struct for what it holds, or a "
-                "`Box`, a `Vec` or a map of the type itself",
+                type_.line, f"`{self.rust}` is not supported in a recursive type: {group.instead_of(type_)}"
             )
 
     def tree(self, left):
@@ -184,9 +270,60 @@ class Part:
         return "refl" if self.kind in ("list", "option", "map") else f"{self.of.word}_columns ({n})"
 
 
+# What the functions that read fields call other things, and words of antt's.
+# what the body of `write` names
+WRITE = {"below", "err", "left", "place", "self", "write_tuple", "write_variant", "writer"}
+TAKEN = set(
+    "alloc reader budget left place below found item made pairs key keys value values items abbrev absurd cc data elim "
+    "grind hlevel infix infixl infixr module omega open opaque postfix prefix prim record rules ruleset rw search simp "
+    "subst suffices syntax tt unfold unfoldable unfolding variant then at with do case of end by is not was now old new "
+    "result self data".split()
+)
+
+
+def local_names(fields):
+    """Names for what is read of the fields: their own, but for those that may mean something else."""
+    return [
+        field.name
+        if re.fullmatch(r"[a-z][a-z0-9]*(_[a-z0-9]+)*", field.name)
+        and field.name not in TAKEN
+        and not re.fullmatch(r"(place|found|value|field|k)\d+", field.name)
+        else f"field{n}"
+        for n, field in enumerate(fields)
+    ]
+
+
+def bound_names(variant):
+    """Names for the fields of a variant that is written: their own, unless the body of `write` has one of them."""
+    if variant.kind != "named":
+        return [f"x{n}" for n in range(len(variant.fields))]
+    return [f"x{n}" if field.name in WRITE else field.name for n, field in enumerate(variant.fields)]
+
+
+def bound(variant):
+    """The pattern of a variant that is written, without its name."""
+    names = bound_names(variant)
+    if not names:
+        return ""
+    if variant.kind != "named":
+        return f"({', '.join(names)})"
+    fields = [name if name == field.name else f"{field.name}: {name}" for field, name in zip(variant.fields, names)]
+    return f" {{ {', '.join(fields)} }}"
+
+
+def with_list_inside(parts):
+    """The fields, where a list that is the only one of the group among them is read in their midst."""
+    inner = [part for part in parts if part.kind != "other"]
+    if len(inner) == 1 and inner[0].kind == "list":
+        inner[0].is_inside = True
+    return parts
+
+
 def applied(function, value):
     """A function of a value, as a term."""
     found = re.fullmatch(r"\(λ (\w+)\. (.*)\)", function)
+    if function.startswith("(array_datum "):
+        return f"({function[1:-1]} {value})"
     return f"({replaced(found[1], value, found[2])})" if found else f"({function} {value})"
 
 
@@ -203,8 +340,12 @@ def replaced(name, value, text):
 
 
 def tree_of(type_, left):
+    if type_.kind == "own":
+        return f"({type_.word}_tree {left})"
     if is_text(type_):
         return "text_tree"
+    if type_.kind == "tuple" and len(type_.parts) > MOST_FIELDS:
+        raise Refused(type_.line, "a tuple has at most 16 fields: write a tuple of tuples")
     if type_.kind == "tuple":
         trees = "no_trees"
         for part in reversed(type_.parts):
@@ -212,9 +353,27 @@ def tree_of(type_, left):
         return f"(tuple_tree {trees})" if type_.parts else "unit_tree"
     if type_.kind == "path" and not type_.parts and type_.name in LEAVES:
         return LEAVES[type_.name][0]
+    if is_cow(type_):
+        return "text_tree"
+    if inner_of(type_, "PhantomData"):
+        # it names a type that is there
+        tree_of(type_.parts[0], left)
+        return "unit_tree"
+    if type_.kind == "array":
+        return f"(array_tree {length_of(type_)} {tree_of(type_.parts[0], left)})"
+    if is_list(type_):
+        return f"(seq_tree {tree_of(type_.parts[0], left)})"
+    if is_address(type_):
+        return tree_of(written_as(type_), left)
+    if is_range(type_):
+        return f"(tuple_tree {trees_and([tree_of(type_.parts[0], left)] * 2)})"
     if type_.kind == "path" and len(type_.parts) == 1 and type_.name in ("Vec", "Option", *HOLDERS):
         if type_.name in ("Rc", "Arc") and type_.parts[0].name in HOLDERS:
-            raise Refused(type_.line, f"`{rust(type_)}` is not supported in the second format yet")
+            raise Refused(
+                type_.line,
+                f"`{rust(type_)}` is not supported in the second format yet: "
+                f"write `{type_.name}<{rust(type_.parts[0].parts[0])}>`",
+            )
         inner = tree_of(type_.parts[0], left)
         return {"Vec": f"(seq_tree {inner})", "Option": f"(option_tree {inner})"}.get(type_.name, inner)
     if is_map(type_):
@@ -225,19 +384,41 @@ def tree_of(type_, left):
     if is_result(type_):
         ok, err = (tree_of(part, left) for part in type_.parts)
         return f"(result_tree {ok} {err})"
-    raise Refused(type_.line, f"`{rust(type_)}` is not supported in the second format yet")
+    instead = instead_of(type_)
+    raise Refused(
+        type_.line,
+        f"`{rust(type_)}` is not supported in the second format yet" + (f": {instead}" if instead else ""),
+    )
 
 
 def datum_of(type_):
+    if type_.kind == "own":
+        return f"{type_.word}_datum"
     if is_text(type_):
         return "(λ s. text s.now)"
     if type_.kind == "tuple":
         data = "no_data"
         for place, part in reversed(list(enumerate(type_.parts))):
-            data = f"(datum_and {applied(datum_of(part), f't.{place}')} {data})"
+            data = f"(datum_and {applied(datum_of(part), field_in('t', place, len(type_.parts)))} {data})"
         return f"(λ t. tuple {data})" if type_.parts else "(λ u. unit)"
+    if is_address(type_):
+        inner, terms = written_as(type_), ADDRESSES[type_.name][1]
+        if inner.kind != "tuple":
+            return f"(λ a. {datum_of(inner)[1:-1]} {terms[0]})"
+        return f"(λ a. tuple {data_of([applied(datum_of(part), term) for part, term in zip(inner.parts, terms)])})"
     if not type_.parts:
         return LEAVES[type_.name][1]
+    if is_cow(type_):
+        return f"(λ s. text ({TEXTS['CowStr']} s))"
+    if inner_of(type_, "PhantomData"):
+        return "(λ m. unit)"
+    if type_.kind == "array":
+        return f"(array_datum {datum_of(type_.parts[0])})"
+    if is_range(type_):
+        inner = datum_of(type_.parts[0])
+        return f"(λ r. tuple {data_of([applied(inner, end) for end in RANGES[type_.name]])})"
+    if is_list(type_):
+        return f"(λ l. list (data_of (map {datum_of(type_.parts[0])} {LISTS[type_.name]})))"
     if is_map(type_):
         key, value = map(datum_of, type_.parts)
         return f"(λ m. map_datum {key} {value} m.entries)"
@@ -253,10 +434,19 @@ def datum_of(type_):
 
 
 def sound_of(type_, left):
+    if type_.kind == "own":
+        return f"({type_.word}_sound {left})"
     if is_text(type_) or type_.kind == "tuple" and not type_.parts:
         return "tt"
     if type_.kind == "tuple":
         return sounds([sound_of(part, left) for part in type_.parts])
+    if is_address(type_):
+        return sound_of(written_as(type_), left)
+    if is_cow(type_) or inner_of(type_, "PhantomData"):
+        return "tt"
+    if type_.kind == "array":
+        inner = type_.parts[0]
+        return f"(repeated_sound {length_of(type_)} {tree_of(inner, left)} {sound_of(inner, left)})"
     if not type_.parts:
         return SOUND[type_.name]
     if is_map(type_):
@@ -267,6 +457,8 @@ def sound_of(type_, left):
     if is_result(type_):
         return sounds([sound_of(part, left) for part in type_.parts])
     inner = sound_of(type_.parts[0], left)
+    if is_range(type_):
+        return sounds([inner] * 2)
     return f"(tt, ({inner}, tt))" if type_.name == "Option" else inner
 
 
@@ -278,15 +470,25 @@ def sounds(each):
 
 
 def has_columns(type_):
+    if type_.kind == "own":
+        return type_.columns
     if type_.kind == "tuple":
         return any(map(has_columns, type_.parts[:1])) and True if type_.parts else False
-    return type_.name not in HOLDERS or has_columns(type_.parts[0])
+    if type_.kind == "array":
+        return length_of(type_) > 0 and has_columns(type_.parts[0])
+    if inner_of(type_, "PhantomData"):
+        return False
+    return type_.name not in (*HOLDERS, *RANGES) or has_columns(type_.parts[0])
 
 
 def trees_of(parts, left):
+    return trees_and([part.tree(left) for part in parts])
+
+
+def trees_and(each):
     trees = "no_trees"
-    for part in reversed(parts):
-        trees = f"(tree_and {part.tree(left)} {trees})"
+    for tree in reversed(each):
+        trees = f"(tree_and {tree} {trees})"
     return trees
 
 
@@ -300,18 +502,50 @@ def data_of(terms):
 # ---- the group
 
 
+def refuse_large(item):
+    """Refuses an enum with too many variants, or one of them with too many fields."""
+    if isinstance(item, Struct):
+        return
+    if len(item.variants) > 256:
+        raise Refused(item.line, "an enum has at most 256 variants")
+    for variant in item.variants:
+        if len(variant.fields) > MOST_FIELDS:
+            raise Refused(variant.line, "a variant has at most 16 fields: write a struct for some of them")
+
+
+class Flat:
+    """A type that does not contain itself."""
+
+    def __init__(self, item, own):
+        self.item, self.name, self.word = item, item.name, word_of(item.name)
+        self.of = f"{item.name}<{item.lifetime}>" if item.lifetime else item.name
+        self.parameter = f"<{item.lifetime}>" if item.lifetime else ""
+        self.is_struct = isinstance(item, Struct)
+        # the types of a struct's fields, or those of each variant's
+        self.held = [own_in(field.type, own) for field in item.fields] if self.is_struct else None
+        self.variants = (
+            [] if self.is_struct else [(one, [own_in(field.type, own) for field in one.fields]) for one in item.variants]
+        )
+        refuse_large(item)
+
+    def has_columns(self):
+        return not self.is_struct or any(map(has_columns, self.held))
+
+
 class Shaped:
-    """A type of the group."""
+    """A type that contains itself, or one between two such types."""
 
     def __init__(self, item):
-        self.item, self.name, self.word = item, item.name, module_of(item.name)
+        self.item, self.name, self.word = item, item.name, word_of(item.name)
         self.of = f"{item.name}<{item.lifetime}>" if item.lifetime else item.name
         self.parameter = f"<{item.lifetime}>" if item.lifetime else ""
         self.is_struct = isinstance(item, Struct)
 
     def fill(self, group):
         if self.is_struct:
-            self.parts = [Part(field.type, group) for field in self.item.fields]
+            self.parts = with_list_inside([Part(field.type, group) for field in self.item.fields])
+            for part, name in zip(self.parts, local_names(self.item.fields)):
+                part.local = name
             self.options = [field.name for field, part in zip(self.item.fields, self.parts) if part.kind == "option"]
             maps = [part for part in self.parts if part.kind == "map"]
             if self.options and maps:
@@ -329,8 +563,12 @@ class Shaped:
                 raise Refused(
                     field.line, "an option of the type itself is supported in a struct only: add a variant without it"
                 )
-        if len(self.variants) > 256:
-            raise Refused(self.item.line, "an enum has at most 256 variants")
+        for _, parts in self.variants:
+            if len(parts) > 1:
+                with_list_inside(parts)
+            for n, part in enumerate(parts):
+                part.local = f"field{n}"
+        refuse_large(self.item)
 
     def trees(self, left):
         """The shapes of its fields, or of what its variants hold."""
@@ -351,26 +589,67 @@ def payload_tree(parts, left):
     return parts[0].tree(left) if len(parts) == 1 else f"(tuple_tree {trees_of(parts, left)})"
 
 
+def names_in(type_, named):
+    """The names of the file's types in the type."""
+    found = {type_.name} & named if type_.kind == "path" else set()
+    return found.union(*(names_in(part, named) for part in type_.parts if isinstance(part, Type)))
+
+
+def inside_of(items):
+    """The names of the file's types that are inside each of them, however deep."""
+    named = {item.name for item in items}
+    found = {item.name: set().union(*(names_in(field.type, named) for field in fields_of(item))) for item in items}
+    while True:
+        wider = {name: names.union(*(found[other] for other in names)) for name, names in found.items()}
+        if wider == found:
+            return found
+        found = wider
+
+
 class Group:
-    """A type that contains itself, or types that contain each other."""
+    """The types of a file: those that contain themselves or each other, and the flat ones."""
 
     def __init__(self, items, crate):
-        self.crate, self.types = crate, [Shaped(item) for item in items]
+        inside = inside_of(items)
+        recursive = {name for name in inside if name in inside[name]}
+        above = {name for name in inside if inside[name] & recursive}
+        block = recursive | {name for name in above if any(name in inside[other] for other in recursive)}
+        self.crate, self.types = crate, [Shaped(item) for item in items if item.name in block]
         self.named = {shaped.name: shaped for shaped in self.types}
         self.lifetime = next((item.lifetime for item in items if item.lifetime), None)
         self.module = module_of(items[0].name)
         self.specs = f"{items[0].name}Shape"
-        self.lemmas = f"{items[0].name}Lemmas"
+        # those that are inside others come first, and `own` says which have columns
+        self.own, self.flats = {}, {}
+        flat = sorted((item for item in items if item.name not in block), key=lambda item: len(inside[item.name]))
+        for item in flat:
+            if item.name not in above:
+                self.flats[item.name] = Flat(item, self.own)
+                self.own[item.name] = self.flats[item.name].has_columns()
+        self.below = list(self.flats.values())
         for shaped in self.types:
             shaped.fill(self)
+        own = self.own | {name: True for name in block}
+        for item in flat:
+            if item.name in above:
+                self.flats[item.name] = Flat(item, own)
+                own[item.name] = self.flats[item.name].has_columns()
+        self.above = [one for one in self.flats.values() if one not in self.below]
+        self.all = [self.named.get(item.name) or self.flats[item.name] for item in items]
         # in the toolchain's order, in which the first has the modules of the group
         self.ordered = self.types[::-1]
         self.lists = [
             shaped
             for shaped in self.types
+            if any(part.kind == "list" and not part.is_inside and part.of is shaped for part in self.all_parts())
+        ]
+        self.listed = [
+            shaped
+            for shaped in self.types
             if any(part.kind == "list" and part.of is shaped for part in self.all_parts())
         ]
         self.options = [shaped for shaped in self.types if shaped.options]
+        self.lemmas = f"{items[0].name}Lemmas" if self.options else None
         self.maps = list({part.function(): part for part in self.all_parts() if part.kind == "map"}.values())
         self.payloads = [
             (shaped, variant, parts)
@@ -386,6 +665,27 @@ class Group:
 
     def mentions(self, type_):
         return type_.name in self.named and type_.kind == "path" or any(map(self.mentions, type_.parts))
+
+    def instead_of(self, type_):
+        """What to write where such a type is inside a recursive one."""
+        inner = type_.parts[0] if type_.kind == "array" or is_list(type_) else None
+        while inner and inner_of(inner, "Box"):
+            inner = inner.parts[0]
+        if inner and inner.name in self.named:
+            return f"write `Vec<{rust(inner)}>`"
+        if inner_of(type_, "PhantomData"):
+            return "remove the marker"
+        return "write a struct for what it holds, or a `Box`, a `Vec` or a map of the type itself"
+
+    def named_in_fields(self):
+        """The names of types in the fields that are not those of the file."""
+        own = {one.name for one in self.all}
+        found, left = set(), [field.type for one in self.all for field in fields_of(one.item)]
+        while left:
+            type_ = left.pop()
+            found |= {type_.name} - own if type_.kind == "path" else set()
+            left += type_.parts
+        return found
 
     def fold(self, shaped):
         """The fold of a type, with the steps of the group."""

@@ -1,8 +1,10 @@
 """The proofs of a group of recursive types in the second format."""
 
-from second_format import SIGNED, applied, data_of, payload_tree, tree_of
+import re
+
+from second_format import SIGNED, applied, bound_names, data_of, field_in, payload_tree, tree_of
+from second_format_flat import answers
 from second_format_containers import (
-    ENUM,
     FEW_FIELDS,
     has_many_fields,
     list_answers,
@@ -10,58 +12,27 @@ from second_format_containers import (
     map_answers,
     option_answers,
 )
-from second_format_text import payload_datum, used, variant_name
+from second_format_std import WORDS_OF_STD
+from second_format_text import WORDS, payload_datum, used, variant_name
 
 OF_LEMMAS = [
-    (
-        "std.proofs.Common",
-        "◌≡◌ ℕ zero suc ◌-◌ ◌<◌ false true Option Some None Box Global map refl ap ◌∙◌ arith sub-one string_bytes",
-    ),
+    ("std.proofs.Common", "◌≡◌ Option Some None Box Global map refl ap ◌∙◌ string_bytes"),
     ("std.specs.Float", "binary32 binary64"),
-    ("std.specs.Arc", "arc_value"),
-    ("std.specs.Rc", "rc_value"),
-    ("bitcode_shapes.specs.Datum", "Datum unit number text list tuple choice datum_and no_data data_of"),
-    ("bitcode_shapes.specs.Floats", "float_number"),
-    ("bitcode_coder.specs.Spelling", "natural truth"),
-    ("bitcode_serde_types.specs.Options", "option_datum"),
-    ("bitcode_untyped.specs.Bounds", "column_free"),
-    ("bitcode_untyped.specs.ShapeTree", "tuple_tree choice_tree"),
-    ("bitcode_serde_types.proofs.EnteringLemmas", "columns_first columns_behind"),
+    *WORDS_OF_STD,
+    ("bitcode_serde_types.specs.Written", WORDS),
 ]
 OF_ANSWERS = [
-    ("std.proofs.Common", "rules arith ◌≡◌ ◌<◌ ◌-◌ Some None [] map refl ap sym subst ◌∙◌ string_bytes"),
-    ("std.proofs.lemmas.Result", "err_from_is_err_and"),
+    ("std.proofs.Common", "rules arith ◌≡◌ ◌<◌ ℕ zero suc false Some None [] map refl ap sym subst ◌∙◌ string_bytes"),
     ("std.specs.Float", "binary32 binary64"),
-    ("std.specs.Arc", "arc_value"),
-    ("std.specs.Rc", "rc_value"),
-    ("bitcode_memory.specs.declared.error.Reason.TheVariants", "NestedTooDeep"),
-    ("bitcode_shapes.specs.Datum", "Datum unit number text list tuple choice datum_and no_data data_of"),
-    ("bitcode_shapes.specs.Floats", "float_number"),
-    ("bitcode_coder.specs.Spelling", "natural truth"),
+    *WORDS_OF_STD,
+    ("bitcode_serde_types.specs.Written", WORDS),
     (
-        "bitcode_untyped.specs.ShapeTree",
-        "unit_tree never_tree bool_tree natural_tree integer_tree float_tree char_tree text_tree seq_tree map_tree option_tree tuple_tree choice_tree tree_and no_trees",
-    ),
-    ("bitcode_untyped.proofs.ReadLemmas", "never_read"),
-    ("bitcode_serde.specs.ReadingValues", "IsRefusalAt"),
-    ("bitcode_serde.proofs.ColumnLemmas", "passed_on"),
-    ("bitcode_serde.proofs.SerializeLemmas", "one_fault"),
-    ("bitcode_serde.proofs.ValueLemmas", "continues_on still_there seq_refused"),
-    ("bitcode_serde_types.specs.Options", "option_datum"),
-    ("bitcode_serde_types.specs.Pairs", "map_datum set_datum"),
-    ("bitcode_serde_types.specs.Results", "result_tree result_datum"),
-    ("bitcode_serde_types.specs.ReadingAs", "ReadsEachAs"),
-    (
-        "bitcode_serde_types.proofs.FieldsRead",
-        "no_fields_kept place_there inside_there field_kept field_not_kept field_kept_at field_not_kept_at tuple_kept",
-    ),
-    (
-        "bitcode_serde_types.proofs.KeptLemmas",
-        "ElementsKept elements_more element_refused elements_there list_kept unit_kept choice_kept payload_refused",
-    ),
-    (
-        "bitcode_serde_types.proofs.PairLemmas",
-        "PairsKept no_memory no_pairs pairs_more keys_there values_there key_not_kept value_not_kept pairs_kept map_kept entries_mapped",
+        "bitcode_serde_types.proofs.StepsRead",
+        "continues_on still_there columns_first columns_behind no_fields_kept place_there kept_otherwise PairsKept no_memory "
+        "no_pairs pairs_more keys_there values_there key_not_kept value_not_kept pairs_kept map_kept entries_mapped "
+        "refused_on too_deep too_deep_written and_field field_refused and_found found_refused all_fields_kept ItemsKept "
+        "no_items items_there and_item item_refused items_kept item_stuck and_list variant_refused variant_kept "
+        "unit_variant_kept",
     ),
 ]
 
@@ -96,7 +67,7 @@ def own_imports(group, text, with_lemmas=True):
                 (
                     f"{group.crate}.proofs.{group.lemmas}",
                     " ".join(
-                        f"{shaped.word}_more {shaped.word}_columns {shaped.word}_content {shaped.word}_made"
+                        f"{shaped.word}_content {shaped.word}_made"
                         for shaped in group.types
                     ),
                 )
@@ -127,7 +98,7 @@ def columns_lemmas(group):
     for shaped in group.types:
         w = shaped.word
         proof = columns_of(shaped.parts, "n") if shaped.is_struct else "refl"
-        text += f"""{'' if several and shaped is group.types[0] else chr(10)}{inside}pub {w}_columns : (n : ℕ) → false ≡ column_free ({w}_tree n)
+        text += f"""{'' if several and shaped is group.types[0] else chr(10)}{inside}{w}_columns : (n : ℕ) → false ≡ column_free ({w}_tree n)
 {inside}{w}_columns zero = refl
 {inside}{w}_columns (suc n) = {proof}
 """
@@ -135,19 +106,12 @@ def columns_lemmas(group):
 
 
 def lemmas(group):
-    text = ""
-    for shaped in group.types:
-        w = shaped.word
-        text += f"""
-pub {w}_more : (n : ℕ) → 0 < n → {w}_tree n ≡ {shaped.tree_word()} ({w}_trees (n - 1))
-{w}_more zero h = absurd (omega (arith, h))
-{w}_more (suc n) h = rw sub-one refl
-"""
-    text += columns_lemmas(group) if group.lists else ""
-    for shaped in group.options:
-        text += content_lemma(group, shaped, False) + content_lemma(group, shaped, True)
+    """The contents of structs with options of themselves."""
+    text = "".join(
+        content_lemma(group, shaped, False) + content_lemma(group, shaped, True) for shaped in group.options
+    )
     return (
-        "-- The shapes of a group of types, level by level. Written by `scripts/second_format`.\n"
+        "-- The content of a struct with options, by these. Written by `scripts/second_format`.\n"
         + used(OF_LEMMAS, text)
         + own_imports(group, text, False)
         + text
@@ -250,57 +214,108 @@ def of_struct(group, shaped):
     return f"{shaped.word}_content c.args.self.now {' '.join(f'{now}.{option}' for option in shaped.options)} {' '.join('refl' for _ in shaped.options)}"
 
 
+FOLLOWED = "c.in_ok-below.ensures.followed"
+
+
+def left_through(name, end=" "):
+    """What a `?` returned, as lemmas take it."""
+    found = "c.from_residual" if name == "below" else f"c.from_residual-in_err-{name}"
+    return f"{found}.result{end}c.in_err-{name}.field-0.0 {found}.ensures.1"
+
+
+# where the line ends behind the first of these
+BREAK = "\n    "
+
+
 def writing(group, shaped, prefix=""):
     w = shaped.word
     text = f"""
-pub {prefix}returns-then-left-eq0 : goal.{prefix}returns-then-left-eq0
-{prefix}returns-then-left-eq0 t c =
-    rw c.if-left-eq0.true
-    (one_fault c.args.writer.now never_tree c.args.place _ _ NestedTooDeep c.err.result _ c.args.writer.now c.err.ensures refl refl)
+pub {prefix}returns-in_err-below : goal.{prefix}returns-in_err-below
+{prefix}returns-in_err-below t c =
+    too_deep_written {w}_tree refl _ c.args.place {left_through('below')} c.in_err-below.ensures.refused c.args.writer.now _
 """
     if shaped.is_struct:
         return (
             text
             + f"""
 pub {prefix}returns : goal.{prefix}returns
-{prefix}returns t c =
-    let h : 0 < c.args.left = omega arith in
-    rw ({w}_more c.args.left h, {of_struct(group, shaped)}) c.write_tuple.ensures
+{prefix}returns t c = rw ({FOLLOWED}, {of_struct(group, shaped)}) c.write_tuple.ensures
 """
         )
     for index, (variant, parts) in enumerate(shaped.variants):
-        names = (
-            [field.name for field in variant.fields]
-            if variant.kind == "named"
-            else [f"x{n}" for n in range(len(parts))]
-        )
+        names = bound_names(variant)
         v = variant.name
         call = "write_variant" if index == 0 else f"write_variant-in-{v}"
         equation = variant_equation(group, shaped, variant, [f"c.in-{v}.{name}" for name in names])
         text += f"""
 pub {prefix}returns-in-{v} : goal.{prefix}returns-in-{v}
 {prefix}returns-in-{v} t c =
-    let h : 0 < c.args.left = omega arith in
-    rw ({w}_more c.args.left h, c.in-{v}.is, {equation})
-    (c.{call}.ensures ({w}_trees (c.args.left - 1)) refl)
+    rw ({FOLLOWED}, c.in-{v}.is, {equation})
+    (c.{call}.ensures ({w}_trees c.in_ok-below.below) refl)
 """
     return text
 
 
 # ---- reading
 
-PRE = "ss c.args.place c.args.reader.now c.take.new.self"
+
+def value_of(part):
+    """The field that was read, as a term."""
+    return f"c.loop-i.{part.local}" if part.is_inside else f"c.in_ok-{part.local}.{part.local}"
+
+
+def no_fields(trees):
+    return f"no_fields_kept ({trees}) c.args.place c.args.reader.now c.take.new.self c.requires.steady"
 
 
 def lets(trees, parts, k):
-    text = f"    let ss = {trees} in\n    let done0 = no_fields_kept {PRE} c.requires.steady in\n"
+    """The fields that were read, one after another."""
+    text = f"    let k0 = {no_fields(trees)} in\n"
     for n, part in enumerate(parts[:k]):
-        value = f"value{n}" if part.kind == "box" else f"field{n}"
-        if part.kind == "other":
-            text += f"    let done{n + 1} = field_kept {PRE} done{n} {part.datum()} c.in_ok-field{n}.field{n} _ _ c.in_ok-field{n}.ensures.continues\n    c.in_ok-field{n}.ensures.read in\n"
+        value = f"value{n}" if part.kind == "box" else part.local
+        step = f"and_field k{n}" if part.kind == "other" else f"and_found k{n} c.in_ok-place{n}.ensures.found"
+        if part.is_inside:
+            text += f"""    let k{n + 1} = and_list k{n} c.in_ok-place{n}.ensures.found c.loop-i.invariant c.in_ok-found{n}.ensures.enters c.in_ok-found{n}.ensures.continues (omega arith)
+    ({part.of.word}_columns {left_of(trees)}) c.enter_list.ensures.taken {part.datum()} c.loop-i.{part.local} refl in
+"""
         else:
-            datum = f"{part.of.word}_datum" if part.kind in ("itself", "box") else part.datum()
-            text += f"    let done{n + 1} = field_kept_at {PRE} done{n} _ c.in_ok-place{n}.place{n} c.in_ok-place{n}.ensures.continues\n    c.in_ok-place{n}.ensures.found c.in_ok-place{n}.ensures.stands {datum} c.in_ok-{value}.{value} _ _\n    c.in_ok-{value}.ensures.continues c.in_ok-{value}.ensures.read in\n"
+            text += f"    let k{n + 1} = {step} c.in_ok-{value}.ensures.continues c.in_ok-{value}.ensures.read in\n"
+    return text
+
+
+def left_of(trees):
+    """How many references may be followed below, from the term of the trees."""
+    return trees.split(" ", 1)[1]
+
+
+def list_inside_answers(fn, trees, parts, n, tree, turn):
+    """The answers for a list that is read among fields, one element after another."""
+    part, left = parts[n], left_of(trees)
+    w, step = part.of.word, f"found_refused k{n} c.in_ok-place{n}.ensures.found"
+    text = f"""
+pub {fn}-returns-in_err-found{n}-clause-refused : goal.{fn}-returns-in_err-found{n}-clause-refused
+{fn}-returns-in_err-found{n}-clause-refused t c =
+{lets(trees, parts, n)}{turn(f'{step} {left_through(f"found{n}", BREAK)} (c.in_err-found{n}.ensures.refused ({w}_tree {left}) ({w}_columns {left}))')}
+pub {fn}-read_{w}-requires : goal.{fn}-read_{w}-requires
+{fn}-read_{w}-requires t c =
+    search (rules, items_there c.loop-i.invariant c.in_ok-found{n}.ensures.inside, c.loop-i.invariant.continues.steady)
+
+pub {fn}-returns-in_err-item-clause-refused : goal.{fn}-returns-in_err-item-clause-refused
+{fn}-returns-in_err-item-clause-refused t c =
+{lets(trees, parts, n)}{turn(f'item_stuck k{n} c.in_ok-place{n}.ensures.found c.loop-i.invariant c.in_ok-found{n}.ensures.enters (omega arith){BREAK}{left_through("item")} c.in_err-item.ensures.refused')}
+pub {fn}-loop-i-init : goal.{fn}-loop-i-init
+{fn}-loop-i-init t c = no_items {w}_datum ({w}_tree {left}) _ _ _ _ c.in_ok-found{n}.ensures.continues.steady (search rules)
+
+pub {fn}-loop-i-preserved : goal.{fn}-loop-i-preserved
+{fn}-loop-i-preserved t c = and_item c.loop-i.invariant c.in_ok-item.ensures.continues c.in_ok-item.ensures.read _ c.in_ok-keep.ensures.kept
+"""
+    if len(parts) > FEW_FIELDS:
+        text += f"""
+pub {fn}-returns-in_err-keep-clause-refused : goal.{fn}-returns-in_err-keep-clause-refused
+{fn}-returns-in_err-keep-clause-refused t c =
+    refused_on ({tree}) c.args.place c.args.reader.now {left_through('keep')}
+    (no_memory ({tree}) c.args.place c.args.reader.now _ c.in_err-keep.ensures.refused)
+"""
     return text
 
 
@@ -308,80 +323,68 @@ def counted(name, count):
     return name if count == 1 else f"{name}-{count}"
 
 
-def fields_answers(fn, trees, parts, more, datum, value, equation):
-    """The answers of a function that reads fields, one after another. `more` tells the tree of a level."""
-    head = "    let h : 0 < c.args.left = omega arith in\n" if more else ""
-    turn = lambda inner: f"    rw ({more} c.args.left h)\n    ({inner})\n" if more else f"    {inner}\n"
+def fields_answers(fn, tree, trees, parts, is_deep, datum, value, equation):
+    """The answers of a function that reads fields, one after another, below a reference or not."""
+    turn = lambda inner: f"    rw {FOLLOWED} ({inner})\n" if is_deep else f"    {inner}\n"
     text, fields, others, called = "", 0, 0, []
     for n, part in enumerate(parts):
-        found = f"value{n}" if part.kind == "box" else f"field{n}"
+        found = f"value{n}" if part.kind == "box" else part.local
         if part.kind == "other":
             others += 1
-            if n > 0:
+            step = f"field_refused k{n}"
+            if n > 0 and parts[n - 1].kind != "other":
                 goal = f"{fn}-{counted('read_field-requires', others)}"
                 text += f"""
 pub {goal} : goal.{goal}
 {goal} t c =
-{lets(trees, parts, n)}    let k = place_there {PRE} done{n} c.requires.place in
-    let s = done{n}.continues.steady in
-    search (rules, k, s)
+{lets(trees, parts, n)}    let there = place_there _ _ _ _ k{n} c.requires.place in
+    let steady = k{n}.continues.steady in
+    search (rules, there, steady)
 """
-            refused = f"field_not_kept {PRE} done{n} _ c.in_err-{found}.ensures.refused"
         else:
             fields += 1
-            if n > 0:
-                goal = f"{fn}-{counted('field-requires', fields)}"
+            step = f"found_refused k{n} c.in_ok-place{n}.ensures.found"
+            if n > 0 and parts[n - 1].kind != "other":
+                goal = f"{fn}-{counted('find_field-requires', fields)}"
                 text += f"""
 pub {goal} : goal.{goal}
 {goal} t c =
-{lets(trees, parts, n)}    record {{ place = place_there {PRE} done{n} c.requires.place; steady = done{n}.continues.steady }}
+{lets(trees, parts, n)}    record {{ place = place_there _ _ _ _ k{n} c.requires.place; steady = k{n}.continues.steady }}
 """
+            if part.is_inside:
+                text += list_inside_answers(fn, trees, parts, n, tree, turn)
+                continue
             if len(parts) > FEW_FIELDS:
                 called.append(part.function())
                 goal = f"{fn}-{counted(f'{part.function()}-requires', called.count(part.function()))}"
                 text += f"""
 pub {goal} : goal.{goal}
-{goal} t c =
-{lets(trees, parts, n)}    let k = inside_there {PRE} done{n} _ c.in_ok-place{n}.place{n} c.in_ok-place{n}.ensures.continues
-    c.in_ok-place{n}.ensures.found c.in_ok-place{n}.ensures.stands c.requires.place in
-    (search rules, (k, c.in_ok-place{n}.ensures.continues.steady))
+{goal} t c = (search rules, (c.in_ok-place{n}.ensures.inside, c.in_ok-place{n}.ensures.continues.steady))
 """
-            refused = (
-                f"field_not_kept_at {PRE} done{n} _ c.in_ok-place{n}.place{n} c.in_ok-place{n}.ensures.continues\n"
-                f"    c.in_ok-place{n}.ensures.found c.in_ok-place{n}.ensures.stands _ c.in_err-{found}.ensures.refused"
-            )
-        residual = "c.from_residual" if n == 0 and part.kind == "other" else f"c.from_residual-in_err-{found}"
+        if n == 0:
+            step = step.replace(" k0", f" ({no_fields(trees)})")
+        through = left_through(found, BREAK)
+        if n == 0 and part.kind == "other" and not is_deep:
+            through = through.replace(f"c.from_residual-in_err-{found}", "c.from_residual")
         goal = f"{fn}-returns-in_err-{found}-clause-refused"
-        inner = (
-            f"passed_on (λ e. IsRefusalAt (tuple_tree ss) c.args.place c.args.reader.now e.reason) {residual}.result\n    c.in_err-{found}.field-0.0 y.0 y.1 y.2\n"
-            f"    ({refused})"
-        )
+        inner = f"{step} {through} c.in_err-{found}.ensures.refused"
         text += f"""
 pub {goal} : goal.{goal}
 {goal} t c =
-{head}{lets(trees, parts, n)}    let y = err_from_is_err_and {residual}.result {residual}.ensures.1 in
-{turn(inner)}"""
+{lets(trees, parts, n) if n else ''}{turn(inner)}"""
     last = len(parts)
-    goal = f"{fn}-returns-clause-continues"
-    text += f"""
-pub {goal} : goal.{goal}
-{goal} t c =
-{lets(trees, parts, last)}    done{last}.continues
-"""
-    goal = f"{fn}-returns-clause-read"
-    kept = f"tuple_kept {PRE} done{last} {datum} {value} c.args.budget.now ({equation}) c.take.ensures"
+    kept = f"all_fields_kept k{last} c.args.budget.now c.take.ensures {datum} {value} ({equation})"
     if has_signed(parts):
-        finish = f"    let k = {kept} in\n" + (
-            f"    rw ({more} c.args.left h) (search (rules, k))\n" if more else "    search (rules, k)\n"
-        )
-    else:
-        finish = turn(kept)
+        kept = f"let k = {kept} in search (rules, k)"
+    read = f"rw {FOLLOWED} ({kept})" if is_deep else kept
+    goal = f"{fn}-returns"
     return (
         text
         + f"""
 pub {goal} : goal.{goal}
 {goal} t c =
-{head}{lets(trees, parts, last)}{finish}"""
+{lets(trees, parts, last)}    record {{ continues = k{last}.continues; read = {read}; refused = tt }}
+"""
     )
 
 
@@ -389,18 +392,17 @@ def has_signed(parts):
     return any(part.kind == "other" and part.rust in SIGNED for part in parts)
 
 
-def boxes(parts, form="c.in_ok-field{}.ensures.ok"):
-    found = [form.format(n) for n, part in enumerate(parts) if part.kind == "box"]
+def boxes(parts):
+    found = [f"c.in_ok-{part.local}.ensures.ok" for part in parts if part.kind == "box"]
     return f"rw ({', '.join(found)}) refl" if found else "refl"
 
 
 def deep_answer(fn, tree):
-    goal = f"{fn}-returns-then-left-eq0-clause-refused"
+    goal = f"{fn}-returns-in_err-below-clause-refused"
     return f"""
 pub {goal} : goal.{goal}
 {goal} t c =
-    passed_on (λ e. IsRefusalAt ({tree} c.args.left) c.args.place c.args.reader.now e.reason) c.err.result _ _ c.err.ensures refl
-    (tt, λ other. rw c.if-left-eq0.true (λ p at a st. never_read p a))
+    too_deep {tree} refl _ c.args.place {left_through('below')} c.in_err-below.ensures.refused c.args.reader.now
 """
 
 
@@ -411,20 +413,18 @@ def raise_on_boxes(shaped):
 
 def struct_answers(group, shaped):
     w, fn = shaped.word, f"read_{shaped.word}"
-    fields = "; ".join(f"{field.name} = c.in_ok-field{n}.field{n}" for n, field in enumerate(shaped.item.fields))
+    fields = "; ".join(f"{field.name} = {value_of(part)}" for field, part in zip(shaped.item.fields, shaped.parts))
     value = f"(record {{ {fields} }})"
-    values = [f"c.in_ok-field{n}.field{n}" for n in range(len(shaped.parts))]
+    values = [value_of(part) for part in shaped.parts]
     equation = f"fold-roll-{shaped.name} {group.fold(shaped)} {value}" + maps_told(shaped.parts, values, tuple_of)
     if shaped.options:
-        read = [
-            f"c.in_ok-field{n}.field{n}" for n, field in enumerate(shaped.item.fields) if field.name in shaped.options
-        ]
+        read = [value_of(part) for part in shaped.parts if part.kind == "option"]
         equation = f"{w}_made {value} {' '.join(read)} {' '.join('refl' for _ in read)}"
         raise_on_boxes(shaped)
     if any(part.kind == "box" for part in shaped.parts):
         equation += f" ∙ {boxes(shaped.parts)}"
     return deep_answer(fn, f"{w}_tree") + fields_answers(
-        fn, f"{w}_trees (c.args.left - 1)", shaped.parts, f"{w}_more", f"{w}_datum", "_", equation
+        fn, f"{w}_tree c.args.left", f"{w}_trees c.in_ok-below.below", shaped.parts, True, f"{w}_datum", "_", equation
     )
 
 
@@ -436,12 +436,9 @@ def enum_answers(group, shaped):
         + f"""
 pub {goal} : goal.{goal}
 {goal} t c =
-    let h : 0 < c.args.left = omega arith in
-    let ss = {w}_trees (c.args.left - 1) in
-    let y = err_from_is_err_and c.from_residual.result c.from_residual.ensures.1 in
-    rw ({w}_more c.args.left h)
-    (passed_on (λ e. IsRefusalAt (choice_tree ss) c.args.place c.args.reader.now e.reason) c.from_residual.result c.in_err-found.field-0.0 y.0 y.1 y.2
-    (c.in_err-found.ensures.refused ss refl))
+    let ss = {w}_trees c.in_ok-below.below in
+    rw {FOLLOWED}
+    (refused_on (choice_tree ss) c.args.place c.args.reader.now {left_through('found')} (c.in_err-found.ensures.refused ss refl))
 """
     )
     for index, (variant, parts) in enumerate(shaped.variants):
@@ -452,68 +449,55 @@ pub {goal} : goal.{goal}
 
 def arm_answers(group, shaped, variant, parts, index, where):
     w, fn = shaped.word, f"read_{shaped.word}"
-    lead = f"""    let h : 0 < c.args.left = omega arith in
-    let ss = {w}_trees (c.args.left - 1) in
-    let found = c.in_ok-found.found in
-    let known = c.in_ok-found.ensures.known in
-    let this : found.index ≡ {index} = omega (arith, known) in
-"""
-    tree = payload_tree(parts, "(c.args.left - 1)")
+    entered = (
+        f"({w}_trees c.in_ok-below.below) {index} c.in_ok-found.ensures.enters (omega (arith, c.in_ok-found.ensures.known))"
+    )
     if not parts:
         goal = f"{fn}-returns-{where}-clause-read"
+        take = "take" if first_take(shaped, variant) else f"take-{where}"
         return f"""
 pub {goal} : goal.{goal}
 {goal} t c =
-{lead}    let mid = c.enter_variant.new.reader in
-    rw ({w}_more c.args.left h)
-    (choice_kept (λ d. d) {w}_datum ss found.index {index} unit_tree {ENUM} c.in_ok-found.ensures.enters this refl mid
-    c.args.budget.now c.enter_variant.new.budget _ unit _ ({variant_equation(group, shaped, variant, [])}) c.enter_variant.ensures.taken
-    (unit_kept (λ d. d) found.place mid c.enter_variant.new.budget _ unit refl c.{'take' if first_take(shaped, variant) else 'take-' + where}.ensures))
+    rw {FOLLOWED}
+    (unit_variant_kept {entered} refl c.args.budget.now c.enter_variant.ensures.taken
+    c.{take}.ensures {w}_datum _ ({variant_equation(group, shaped, variant, [])}))
 """
     kind = parts[0].kind if len(parts) == 1 else "several"
     name = "value" if kind == "box" else "held"
-    ok, bad, residual = f"c.in_ok-{name}-{where}", f"c.in_err-{name}-{where}", f"c.from_residual-in_err-{name}-{where}"
+    ok, bad = f"c.in_ok-{name}-{where}", f"c.in_err-{name}-{where}"
     if kind == "several":
-        taken = [f"{ok}.held.{place}" for place in range(len(parts))]
-        datum, equation = payload_datum(parts), variant_equation(group, shaped, variant, taken)
+        equation = variant_equation(group, shaped, variant, [field_in(f"{ok}.held", place, len(parts)) for place in range(len(parts))])
     elif kind == "box":
-        datum = f"{parts[0].of.word}_datum"
         equation = f"{variant_equation(group, shaped, variant, [f'c.in_ok-held-{where}.held'])} ∙ rw c.in_ok-held-{where}.ensures.ok refl"
     else:
-        datum, equation = parts[0].datum(), variant_equation(group, shaped, variant, [f"{ok}.held"])
+        equation = variant_equation(group, shaped, variant, [f"{ok}.held"])
     goal = f"{fn}-returns-in_err-{name}-{where}-clause-refused"
     text = f"""
 pub {goal} : goal.{goal}
 {goal} t c =
-{lead}    let y = err_from_is_err_and {residual}.result {residual}.ensures.1 in
-    rw ({w}_more c.args.left h)
-    (passed_on (λ e. IsRefusalAt (choice_tree ss) c.args.place c.args.reader.now e.reason) {residual}.result
-    {bad}.field-0.0 y.0 y.1 y.2
-    (payload_refused ss found.index {index} {tree} {ENUM} _ c.in_ok-found.ensures.enters this refl
-    {bad}.ensures.refused))
+    rw {FOLLOWED}
+    (variant_refused {entered}
+    {left_through(f'{name}-{where}')} {bad}.ensures.refused)
 """
-    goal = f"{fn}-returns-in_ok-held-{where}-clause-continues"
-    text += f"""
-pub {goal} : goal.{goal}
-{goal} t c = continues_on c.args.reader.now c.enter_variant.new.reader _ c.in_ok-found.ensures.continues {ok}.ensures.continues
-"""
-    goal = f"{fn}-returns-in_ok-held-{where}-clause-read"
     value = f"({shaped.word}'.{variant.name} {ok}.held)" if len(parts) == 1 and has_signed(parts) else "_"
     kept = (
-        f"choice_kept {datum} {w}_datum ss found.index {index} {tree} {ENUM} c.in_ok-found.ensures.enters this refl _\n"
-        f"    c.args.budget.now c.enter_variant.new.budget _ {ok}.{name} {value} ({equation}) c.enter_variant.ensures.taken {ok}.ensures.read"
+        f"variant_kept {entered}\n"
+        f"    c.args.budget.now c.enter_variant.ensures.taken {ok}.ensures.read {w}_datum {value} ({equation})"
     )
-    finish = (
-        f"    let k = {kept} in\n    rw ({w}_more c.args.left h) (search (rules, k))\n"
-        if has_signed(parts)
-        else f"    rw ({w}_more c.args.left h)\n    ({kept})\n"
-    )
+    if has_signed(parts):
+        kept = f"let k = {kept} in\n    search (rules, k)"
+    goal = f"{fn}-returns-in_ok-held-{where}"
     return (
         text
         + f"""
-pub {goal} : goal.{goal}
-{goal} t c =
-{lead}{finish}"""
+pub {goal}-clause-continues : goal.{goal}-clause-continues
+{goal}-clause-continues t c = continues_on _ _ _ c.in_ok-found.ensures.continues {ok}.ensures.continues
+
+pub {goal}-clause-read : goal.{goal}-clause-read
+{goal}-clause-read t c =
+    rw {FOLLOWED}
+    ({kept})
+"""
     )
 
 
@@ -523,13 +507,13 @@ def first_take(shaped, variant):
 
 
 def reading(group):
-    text = ""
+    text = columns_lemmas(group) if group.listed else ""
     for shaped in group.types:
         text += struct_answers(group, shaped) if shaped.is_struct else enum_answers(group, shaped)
     for shaped, variant, parts in group.payloads:
         name = variant_name(shaped, variant)
         text += fields_answers(
-            f"read_{name}", f"{name}_trees c.args.left", parts, None, payload_datum(parts), "_", boxes(parts)
+            f"read_{name}", f"tuple_tree ({name}_trees c.args.left)", f"{name}_trees c.args.left", parts, False, payload_datum(parts), "_", boxes(parts)
         )
     for shaped in group.options:
         text += option_answers(group, shaped)
@@ -539,16 +523,47 @@ def reading(group):
             text += list_keep_answer(shaped)
     for part in group.maps:
         text += map_answers(part)
-    return text
+    return named_alone(group, text)
+
+
+def has_inner(group):
+    """Whether more than one function reads values of the group."""
+    return len(group.types) > 1 or bool(group.payloads or group.lists or group.options or group.maps)
+
+
+def named_alone(group, text):
+    """The text, with the names of goals as they are where one function alone reads values of the group."""
+    if has_inner(group):
+        return text
+    return re.sub(rf"(?<![\w-])(invariant-|)read_{group.types[0].word}-(?=[a-z])", r"\1", text)
+
+
+def invariant_inside(fn, parts, left):
+    """The invariant of a list that is read among fields."""
+    return "".join(
+        f"""
+abbrev pub invariant-{fn}-loop-i : goal.invariant-{fn}-loop-i
+invariant-{fn}-loop-i l =
+    ItemsKept {part.of.word}_datum ({part.of.word}_tree {left}) l.found{n}.place l.initial.reader l.initial.budget l._i l.{part.local}.items l.reader l.budget
+"""
+        for n, part in enumerate(parts)
+        if part.is_inside
+    )
 
 
 def invariants(group):
     text = ""
+    measure = "3 * l.left" if has_inner(group) else "l.left"
     for shaped in group.types:
-        text += f"\nabbrev pub decreases-read_{shaped.word} : goal.decreases-read_{shaped.word}\ndecreases-read_{shaped.word} l = 3 * l.left\n"
+        text += f"\nabbrev pub decreases-read_{shaped.word} : goal.decreases-read_{shaped.word}\ndecreases-read_{shaped.word} l = {measure}\n"
     for shaped, variant, _ in group.payloads:
         name = variant_name(shaped, variant)
         text += f"\nabbrev pub decreases-read_{name} : goal.decreases-read_{name}\ndecreases-read_{name} l = 3 * l.left + 2\n"
+    for shaped in group.types:
+        if shaped.is_struct:
+            text += invariant_inside(f"read_{shaped.word}", shaped.parts, "l.below")
+    for shaped, variant, parts in group.payloads:
+        text += invariant_inside(f"read_{variant_name(shaped, variant)}", parts, "l.left")
     for shaped in group.options:
         fn = f"read_{shaped.word}_option"
         text += f"\nabbrev pub decreases-{fn} : goal.decreases-{fn}\ndecreases-{fn} l = 3 * l.left + 1\n"
@@ -558,7 +573,7 @@ def invariants(group):
         text += f"""
 abbrev pub invariant-{fn}-loop-i : goal.invariant-{fn}-loop-i
 invariant-{fn}-loop-i l =
-    ElementsKept {shaped.word}_datum ({shaped.word}_tree l.left) l.found.place l.initial.reader l.initial.budget l._i l.items.items l.reader l.budget
+    ItemsKept {shaped.word}_datum ({shaped.word}_tree l.left) l.found.place l.initial.reader l.initial.budget l._i l.items.items l.reader l.budget
 """
     for part in group.maps:
         fn = part.function()
@@ -569,24 +584,43 @@ invariant-{fn}-loop-i l =
     PairsKept {part.key()} {part.of.word}_datum {tree_of(part.type.parts[0], 'l.left')} ({part.of.word}_tree l.left) l.found.keys l.found.values
     l.initial.reader l.initial.budget l._i l.pairs.items l.reader l.budget
 """
-    plus = (
-        "use Rattle.std.proofs.Common.{◌*◌"
-        + (", ◌+◌" if group.payloads or group.lists or group.options or group.maps else "")
-        + "}\n"
-    )
+    plus = ["◌*◌", "◌+◌"][: 1 + ("+" in text)] if has_inner(group) else []
+    plus = f"use Rattle.std.proofs.Common.{{{', '.join(plus)}}}\n" if plus else ""
     return (
         "-- Written by `scripts/second_format`.\n"
         + plus
         + used(OF_ANSWERS, text)
         + own_imports(group, text)
         + f"use Rattle.{group.crate}.proofs.{group.module}.+{group.module}.Given as goal\n"
-        + text
+        + named_alone(group, text)
     )
+
+
+def flat_answers(group, flat):
+    """The proofs of the impls of a flat type."""
+    found = {}
+    for method, (about, text) in answers(flat).items():
+        goals = f"{group.module}.{flat.name}{method}"
+        place = f"{group.crate}.specs.declared.{group.module}.{flat.name}"
+        own = used([(f"{group.crate}.specs.{group.specs}", f"{flat.word}_trees {flat.word}_datum")], text)
+        own += f"use Rattle.{place}.TheVariants as {flat.word}'\n" if f"{flat.word}'." in text else ""
+        head = f"-- {about} Written by `scripts/second_format`.\n" + used(OF_ANSWERS, text) + own
+        head += f"use Rattle.{group.crate}.proofs.{goals}.Goals as goal\n"
+        found[f"{goals.replace('.', '/')}/Answers.antt"] = head + text
+    return found
 
 
 def files(group):
     """The proofs, by the names of their files below proofs/."""
-    found = {f"{group.lemmas}.antt": lemmas(group)}
+    found = {}
+    for flat in group.flats.values():
+        found |= flat_answers(group, flat)
+    return found | cycle_files(group) if group.types else found
+
+
+def cycle_files(group):
+    """The proofs of the types that contain themselves or each other."""
+    found = {f"{group.lemmas}.antt": lemmas(group)} if group.lemmas else {}
     module = group.module
     if len(group.types) == 1:
         shaped = group.types[0]

@@ -2,7 +2,8 @@
 
 import re
 
-from second_format import LIBRARY, MAPS, data_of, payload_tree, sounds, trees_of
+from second_format import LIBRARY, MAPS, applied, bound, bound_names, data_of, field_in, payload_tree, sounds, trees_of
+from second_format_std import TYPES_OF_STD, WORDS_OF_STD
 from declarations import Struct
 from names import module_of
 from structs import declaration as struct_declaration
@@ -15,7 +16,7 @@ def has_name(name, text):
     """Whether the text has the name, or an operator."""
     if name.startswith("◌"):
         return f" {name.strip('◌')} " in text
-    return re.search(rf"(?<![\w.'-]){re.escape(name)}(?![\w'-])", text) is not None
+    return re.search(rf"(?<![\w.'-]){re.escape(name)}(?![\w'-]|:(?!:)| = c\.)", text) is not None
 
 
 def imports(groups, text, form):
@@ -38,28 +39,76 @@ def variant_name(shaped, variant):
 
 # ---- definitions
 
+# `bitcode_serde_types/specs/Written.antt` has these of several modules
+WORDS = (
+    "Datum unit number text list tuple choice no_data datum_and data_of float_number width_1 width_2 width_4 width_8 "
+    "width_16 natural truth column_free ShapeTree ShapeTrees unit_tree never_tree bool_tree natural_tree integer_tree "
+    "float_tree char_tree text_tree seq_tree map_tree option_tree tuple_tree choice_tree no_trees tree_and IsSound "
+    "IsSteady Continues IsRefusalAt option_datum map_datum set_datum ReadsAs HasNoMap result_tree result_datum"
+)
 OF_SPECS = [
     ("std.specs.Prelude", "ℕ zero suc map string_bytes"),
     ("std.specs.Float", "binary32 binary64"),
-    ("std.specs.Arc", "arc_value"),
-    ("std.specs.Rc", "rc_value"),
-    ("bitcode_shapes.specs.Datum", "Datum unit number text list tuple choice no_data datum_and data_of"),
-    ("bitcode_shapes.specs.Floats", "float_number"),
-    ("bitcode_shapes.specs.LawfulInts", "width_1 width_2 width_4 width_8 width_16"),
-    ("bitcode_coder.specs.Spelling", "natural truth"),
-    (
-        "bitcode_untyped.specs.ShapeTree",
-        "ShapeTree ShapeTrees unit_tree never_tree bool_tree natural_tree integer_tree float_tree char_tree text_tree seq_tree map_tree option_tree tuple_tree choice_tree no_trees tree_and IsSound",
-    ),
-    ("bitcode_serde_types.specs.Options", "option_datum"),
-    ("bitcode_serde_types.specs.Pairs", "map_datum set_datum"),
-    ("bitcode_serde_types.specs.Results", "result_tree result_datum"),
-    ("bitcode_serde_types.specs.Restates", "HasNoMap"),
+    *WORDS_OF_STD,
+    ("bitcode_serde_types.specs.Written", WORDS),
+    ("bitcode_serde_types.specs.Restates", "HaveNoMap"),
 ]
+
+
+REPEATED = """-- there is no map in the elements of an array, if there is none in their shape
+repeated_plain : (n : ℕ) (s : ShapeTree) → HasNoMap s → HaveNoMap (repeated n s)
+repeated_plain zero s h = tt
+repeated_plain (suc n) s h = (h, repeated_plain n s h)
+
+"""
 
 
 def specs(group):
     """The file of definitions."""
+    from second_format_flat import specs as flat_specs
+
+    lines, mapped = [], set()
+    for flat in group.below:
+        lines += with_plain(flat_specs(flat), [flat], mapped)
+    if group.types:
+        lines += with_plain(cycle_specs(group), group.types, mapped)
+    for flat in group.above:
+        lines += with_plain(flat_specs(flat), [flat], mapped)
+    text = "\n".join(lines).rstrip() + "\n"
+    text = REPEATED + text if "repeated_plain" in text else text
+    names = ", ".join(f"`{one.name}`" for one in group.all)
+    head = f"-- The shapes of {names}, and the content of their values. Written by `scripts/second_format`.\n" + used(
+        OF_SPECS, text
+    )
+    declared = f"Rattle.{group.crate}.specs.declared.{group.module}"
+    for one in group.all:
+        fold = f", fold-{one.name}" if one in group.types else ""
+        head += f"use {declared}.{one.name}.{{{one.name}{fold}}}\n"
+        if one not in group.types and not one.is_struct:
+            head += f"use {declared}.{one.name}.TheVariants as {one.word}'\n"
+    if group.types:
+        opened = ", ".join(f"{shaped.name}-F" for shaped in group.ordered)
+        head += f"use {declared}.{group.ordered[0].name}.TheOpen.{{{opened}}}\n"
+    return head + "\n" + text
+
+
+def with_plain(lines, types, mapped):
+    """The definitions of these types, with the lemmas that there is no map in them. `mapped` has the words of the types
+    with maps."""
+    text = "\n".join(lines)
+    if "map_tree" in text or any(has_name(f"{word}_tree", text) for word in mapped):
+        mapped.update(one.word for one in types)
+        return lines
+    start = max(place for place, line in enumerate(lines) if "_sound : " in line and line.endswith(f"({types[0].word}_tree left)"))
+    sound = lines[start:]
+    several = lines[start - 1] == "mutual"
+    plain = ["-- there is no map in it, so that a value keeps all that was read", *(["mutual"] if several else [])]
+    plain += [re.sub(r"width_\d+", "tt", line).replace("_sound", "_plain").replace("IsSound", "HasNoMap") for line in sound]
+    return [*lines, *plain]
+
+
+def cycle_specs(group):
+    """The definitions of the types that contain themselves or each other."""
     lines = []
     several = len(group.types) > 1
     inside = "  " if several else ""
@@ -108,22 +157,7 @@ def specs(group):
     if several:
         lines.append("mutual")
     lines += sound
-    if not any("map_tree" in shaped.trees("left") for shaped in group.types):
-        lines.append("-- there is no map in it, so that a value keeps all that was read")
-        if several:
-            lines.append("mutual")
-        lines += [re.sub(r"width_\d+", "tt", line).replace("_sound", "_plain").replace("IsSound", "HasNoMap") for line in sound]
-    text = "\n".join(lines).rstrip() + "\n"
-    names = ", ".join(f"`{shaped.name}`" for shaped in group.types)
-    first = group.ordered[0].name
-    head = f"-- The shapes of {names}, and the content of their values. Written by `scripts/second_format`.\n" + used(
-        OF_SPECS, text
-    )
-    for shaped in group.types:
-        head += f"use Rattle.{group.crate}.specs.declared.{group.module}.{shaped.name}.{{{shaped.name}, fold-{shaped.name}}}\n"
-    opened = ", ".join(f"{shaped.name}-F" for shaped in group.ordered)
-    head += f"use Rattle.{group.crate}.specs.declared.{group.module}.{first}.TheOpen.{{{opened}}}\n"
-    return head + "\n" + text
+    return lines
 
 
 def sound_lines(group, inside):
@@ -154,36 +188,16 @@ def payload_sound(parts):
 OF_CODE = [
     ("std.specs.Prelude", "◌≡◌ ◌≤◌ ℕ length map string_bytes IfOk IfErr OnOk"),
     ("std.specs.Float", "binary32 binary64"),
-    ("std.specs.Arc", "arc_value"),
-    ("std.specs.Rc", "rc_value"),
-    ("bitcode_shapes.specs.Datum", "unit number text list tuple no_data datum_and data_of"),
-    ("bitcode_shapes.specs.Floats", "float_number"),
-    ("bitcode_coder.specs.Spelling", "natural truth"),
-    ("bitcode_untyped.specs.Bounds", "column_free"),
-    ("bitcode_untyped.specs.ShapeTree", "natural_tree integer_tree char_tree text_tree seq_tree map_tree option_tree tuple_tree"),
-    ("bitcode_serde.specs.ReadingValues", "IsSteady Continues IsRefusalAt"),
-    ("bitcode_serde_types.specs.Options", "option_datum"),
-    ("bitcode_serde_types.specs.Pairs", "map_datum set_datum"),
-    ("bitcode_serde_types.specs.Results", "result_tree result_datum"),
-    ("bitcode_serde_types.specs.ReadingAs", "ReadsAs"),
+    *WORDS_OF_STD,
+    ("bitcode_serde_types.specs.Written", WORDS),
 ]
 OF_LIBRARY = [
-    ("bitcode_memory::error", "Error Reason"),
-    ("bitcode_memory::refuse", "err"),
-    ("bitcode_serde::budget", "Budget"),
-    ("bitcode_serde::reader", "Reader"),
-    ("bitcode_serde::writer", "Writer"),
-    ("bitcode_serde_types::deserialize_as", "DeserializeAs"),
-    ("bitcode_serde_types::entering", "enter_list enter_map enter_variant read_at read_field"),
-    ("bitcode_serde_types::fields", "write_tuple"),
-    ("bitcode_serde_types::maps", " ".join(MAPS.values())),
-    ("bitcode_serde_types::serialize_as", "SerializeAs"),
-    ("bitcode_serde_types::variants", "write_variant"),
+    (
+        "bitcode_serde_types::written",
+        "Budget DeserializeAs DeserializeFields Error Reader Reason SerializeAs Writer enter_list enter_map enter_variant "
+        f"find_field follow {' '.join(sorted(MAPS.values()))} read_at read_field read_tuple write_tuple write_variant",
+    ),
     ("std::alloc", "Global"),
-    ("std::collections", " ".join([*MAPS, "BTreeSet", "HashSet"])),
-    ("std::num", "Saturating Wrapping"),
-    ("std::rc", "Rc"),
-    ("std::sync", "Arc"),
 ]
 
 
@@ -218,15 +232,23 @@ def fields_read(parts, left):
     text = ""
     for n, part in enumerate(parts):
         if part.kind == "other":
-            text += f"    let field{n}: {part.rust} = read_field(alloc, reader, budget, {left}, place, {n}, {len(parts)})?;\n"
+            text += f"    let {part.local}: {part.rust} = read_field(alloc, reader, budget, {left}, place, {n}, {len(parts)})?;\n"
             continue
-        text += f"    let place{n} = reader.field(place, {n}, {len(parts)}, {n})?;\n"
-        text += held_read(part, left, f"place{n}", f"field{n}", f"value{n}", "    ")
+        text += f"    let place{n} = find_field(reader, place, {n}, {len(parts)})?;\n"
+        text += held_read(part, left, f"place{n}", part.local, f"value{n}", "    ", f"found{n}")
     return text
 
 
-def held_read(part, left, place, name, value, indent):
+def held_read(part, left, place, name, value, indent, found="found"):
     """Reads a value of the group, a box or a list of such, at a place."""
+    if part.is_inside:
+        return f"""{indent}let {found} = enter_list(reader, budget, false, {place})?;
+{indent}let mut {name} = Vec::new(alloc);
+{indent}for _i in 0..{found}.count {{
+{indent}    let item = read_{part.of.word}(alloc, reader, budget, {left}, {found}.place)?;
+{indent}    budget.keep(&mut {name}, item)?;
+{indent}}}
+"""
     call = f"{part.function()}(alloc, reader, budget, {left}, {place})?;\n"
     if part.kind != "box":
         return f"{indent}let {name} = {call}"
@@ -236,11 +258,14 @@ def held_read(part, left, place, name, value, indent):
 def built(owner, fields, kind, names):
     """A value of a struct or a variant, of these parts."""
     if kind == "named":
-        return f"{owner} {{ {', '.join(f'{field.name}: {name}' for field, name in zip(fields, names))} }}"
+        each = [
+            name if name == field.name else f"{field.name}: {name}" for field, name in zip(fields, names)
+        ]
+        return f"{owner} {{ {', '.join(each)} }}"
     return f"{owner}({', '.join(names)})" if names else owner
 
 
-DEEP = "    if left == 0 {\n        return err(Reason::NestedTooDeep);\n    }\n"
+DEEP = "    let below = follow(left)?;\n"
 
 
 def reading(group):
@@ -248,8 +273,8 @@ def reading(group):
     for shaped in group.types:
         body = DEEP
         if shaped.is_struct:
-            body += "    budget.take(1);\n" + fields_read(shaped.parts, "left - 1")
-            names = [f"field{n}" for n in range(len(shaped.parts))]
+            body += "    budget.take(1);\n" + fields_read(shaped.parts, "below")
+            names = [part.local for part in shaped.parts]
             body += f"    Ok({built(shaped.name, shaped.item.fields, 'named', names)})\n"
         else:
             body += f"    let found = enter_variant(reader, budget, {len(shaped.variants)}, Reason::InvalidEnumVariant, place)?;\n    match found.index {{\n"
@@ -352,13 +377,11 @@ def list_datum(shaped):
 
 def payload_datum(parts):
     """The content of what a variant holds, as a function of it."""
-    from second_format import applied
-
     if not parts:
         return "(λ d. d)"
     if len(parts) == 1:
         return parts[0].datum()
-    return f"(λ t. tuple {data_of([applied(part.datum(), f't.{place}') for place, part in enumerate(parts)])})"
+    return f"(λ t. tuple {data_of([applied(part.datum(), field_in('t', place, len(parts))) for place, part in enumerate(parts)])})"
 
 
 def arm(group, shaped, variant, parts):
@@ -368,11 +391,11 @@ def arm(group, shaped, variant, parts):
         return f"{indent}budget.take(1);\n{indent}Ok({owner})\n"
     if len(parts) == 1:
         if parts[0].kind == "other":
-            text = f"{indent}let held: {parts[0].rust} = read_at(alloc, reader, budget, left - 1, found.place)?;\n"
+            text = f"{indent}let held: {parts[0].rust} = read_at(alloc, reader, budget, below, found.place)?;\n"
         else:
-            text = held_read(parts[0], "left - 1", "found.place", "held", "value", indent)
+            text = held_read(parts[0], "below", "found.place", "held", "value", indent)
         return text + f"{indent}Ok({built(owner, variant.fields, variant.kind, ['held'])})\n"
-    text = f"{indent}let held = read_{variant_name(shaped, variant)}(alloc, reader, budget, left - 1, found.place)?;\n"
+    text = f"{indent}let held = read_{variant_name(shaped, variant)}(alloc, reader, budget, below, found.place)?;\n"
     return (
         text
         + f"{indent}Ok({built(owner, variant.fields, variant.kind, [f'held.{place}' for place in range(len(parts))])})\n"
@@ -386,45 +409,41 @@ def nested(names):
     return text
 
 
-def impls(group, shaped):
-    specs_ = f"Rattle.{group.crate}.specs.{group.specs}"
-    word = shaped.word
-    cycle = f"    #[cycle({group.module}_write)]\n" if len(group.types) > 1 else ""
-    body = (
-        DEEP.replace("    ", "        ", 1)
-        .replace("\n        return", "\n            return")
-        .replace("\n    }", "\n        }")
-    )
+def write_body(shaped):
+    """The body of `write` of a recursive type."""
+    body = f"    {DEEP}"
     if shaped.is_struct:
         refs = [f"&self.{field.name}" for field in shaped.item.fields]
-        body += f"        write_tuple(&{nested(refs)}, {len(refs)}, writer, left - 1, place)\n"
-    else:
-        body += "        match self {\n"
-        for index, (variant, parts) in enumerate(shaped.variants):
-            names = (
-                [field.name for field in variant.fields]
-                if variant.kind == "named"
-                else [f"x{n}" for n in range(len(parts))]
-            )
-            taken = (
-                f" {{ {', '.join(names)} }}"
-                if variant.kind == "named" and names
-                else f"({', '.join(names)})"
-                if names
-                else ""
-            )
-            held = "&()" if not names else names[0] if len(names) == 1 else f"&({', '.join(names)})"
-            body += f"            {shaped.name}::{variant.name}{taken} => {{\n                write_variant({held}, {index}, writer, left - 1, place)\n            }}\n"
-        body += "        }\n"
+        return body + f"        write_tuple(&{nested(refs)}, {len(refs)}, writer, below, place)\n"
+    body += "        match self {\n"
+    for index, (variant, parts) in enumerate(shaped.variants):
+        names, taken = bound_names(variant), bound(variant)
+        held = "&()" if not names else names[0] if len(names) == 1 else f"&({', '.join(names)})"
+        body += f"            {shaped.name}::{variant.name}{taken} => {{\n                write_variant({held}, {index}, writer, below, place)\n            }}\n"
+    return body + "        }\n"
+
+
+def impls(group, one):
+    """The impls of a type."""
+    from second_format_flat import is_free, read, written
+
+    specs_ = f"Rattle.{group.crate}.specs.{group.specs}"
+    word = one.word
     reads_lifetime = group.lifetime or "'a"
-    of_own = bool(shaped.item.lifetime)
+    if one in group.types:
+        cycle = f"    #[cycle({group.module}_write)]\n" if len(group.types) > 1 else ""
+        body, free = write_body(one), "false"
+        read_body = f"        read_{word}(alloc, reader, budget, left, place)\n"
+    else:
+        cycle, body, free, read_body = "", written(one), is_free(one, reads_lifetime), read(one)
+    of_own = bool(one.item.lifetime)
     free_clause = (
         f"\n        ensures {{ (left : ℕ) → result ≡ column_free ({word}_tree left) }}\n    {{" if of_own else " {"
     )
     read_clauses = "\n" + contract(f"({word}_tree left)", f"{word}_datum", "        ") + "    {" if of_own else " {"
     used_here = f"    ghost use {specs_}.{{{word}_tree, {word}_datum}};\n\n" if of_own else ""
     return f"""
-impl{shaped.parameter} SerializeAs for {shaped.of} {{
+impl{one.parameter} SerializeAs for {one.of} {{
     ghost use {specs_}.{{{word}_tree, {word}_datum, {word}_sound}};
 
     ghost tree = {{ {word}_tree }};
@@ -437,9 +456,9 @@ impl{shaped.parameter} SerializeAs for {shaped.of} {{
 {body}    }}
 }}
 
-impl<{reads_lifetime}> DeserializeAs<{reads_lifetime}> for {shaped.of} {{
+impl<{reads_lifetime}> DeserializeAs<{reads_lifetime}> for {one.of} {{
 {used_here}    fn is_free() -> bool{free_clause}
-        false
+        {free}
     }}
 
     fn read(
@@ -448,9 +467,8 @@ impl<{reads_lifetime}> DeserializeAs<{reads_lifetime}> for {shaped.of} {{
         budget: &mut Budget,
         left: usize,
         place: usize,
-    ) -> Result<{shaped.of}, Error>{read_clauses}
-        read_{word}(alloc, reader, budget, left, place)
-    }}
+    ) -> Result<{one.of}, Error>{read_clauses}
+{read_body}    }}
 }}
 """
 
@@ -458,23 +476,25 @@ impl<{reads_lifetime}> DeserializeAs<{reads_lifetime}> for {shaped.of} {{
 def code(group):
     """The file of the types."""
     declared = ""
-    for shaped in group.types:
+    for shaped in group.all:
         text = (struct_declaration if shaped.is_struct else enum_declaration)(shaped.item)
-        cycle = f"#[cycle({group.module}_types)]\n" if len(group.types) > 1 else ""
+        cycle = f"#[cycle({group.module}_types)]\n" if shaped in group.types and len(group.types) > 1 else ""
         declared += "\n" + re.sub(r"^(?=#\[derive|pub |struct |enum )", cycle, text.strip(), count=1, flags=re.M) + "\n"
-    text = declared + "".join(impls(group, shaped) for shaped in group.types)
+    text = declared + "".join(impls(group, one) for one in group.all)
     own = " ".join(f"{shaped.word}_tree {shaped.word}_trees {shaped.word}_datum" for shaped in group.types)
     own += " " + " ".join(f"{variant_name(shaped, variant)}_trees" for shaped, variant, _ in group.payloads)
     functions = reading(group)
     text += functions
-    names = ", ".join(f"`{shaped.name}`" for shaped in group.types)
+    names = ", ".join(f"`{one.name}`" for one in group.all)
     head = f"//! {names} in the second format. {HEADER}\n"
     ghost = lambda module, found: f"ghost use Rattle.{module}.{{{', '.join(found)}}};\n"
     head += (
         imports(OF_CODE, text, ghost) + imports([(f"{group.crate}.specs.{group.specs}", own)], functions, ghost) + "\n"
     )
+    named = group.named_in_fields()
+    of_std = [(module, " ".join(name for name in names.split() if name in named)) for module, names in TYPES_OF_STD]
     head += imports(
-        OF_LIBRARY,
+        [*OF_LIBRARY, *of_std],
         text,
         lambda module, found: f"use {module}::{{{', '.join(found)}}};\n"
         if len(found) > 1

@@ -23,6 +23,7 @@ pub mod EachLemmas
 pub mod PushingLemmas
 pub mod PushedTextLemmas
 pub mod TakingLemmas
+pub mod DirectLemmas
 pub mod TakenTextLemmas
 pub mod RefusalLemmas
 pub mod StrictLemmas

@@ -105,6 +105,18 @@ pub record TakesDatum {T : Type 0} (makes : Datum → T → Type 0) (t : T) (old
   pub taken : old ≡ datum ∷ new
   pub made : makes datum t
 
+-- a prefix of the old input spells a datum that makes the value, and the new input is the rest
+pub record ReadsValue {T : Type 0} (makes : Datum → T → Type 0) (shape : Shape) (old : List ℕ) (t : T) (new : List ℕ) : Type 0 where
+  pub datum : Datum
+  pub read : Reads (Spells shape) 1 old (datum ∷ []) new
+  pub made : makes datum t
+
+-- a prefix of the old input spells so many data, which make the items one by one, and the new input is the rest
+pub record ReadsValues {T : Type 0} (makes : Datum → T → Type 0) (shape : Shape) (count : ℕ) (old : List ℕ) (items : List T) (new : List ℕ) : Type 0 where
+  pub parts : List Datum
+  pub read : Reads (Spells shape) count old parts new
+  pub made : AllZip makes parts items
+
 -- so many data were taken from the front, and make the items one by one
 pub record TakesEach {T : Type 0} (makes : Datum → T → Type 0) (count : ℕ) (items : List T) (old new : List Datum) : Type 0 where
   pub size : length items ≡ count

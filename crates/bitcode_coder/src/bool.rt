@@ -1,11 +1,12 @@
 //! The coders of a column of bools.
 #![tactic(auto, using(crate::proofs::BoolLemmas::truths_in, crate::proofs::BoolLemmas::bools_read, crate::proofs::BoolLemmas::bools_refused, crate::proofs::BoolLemmas::bools_exact))]
 
-ghost use Rattle.std.specs.Prelude.{◌≡◌, ◌+◌, ◌≤◌, ◌++◌, length, map, true, refl, IsTrue, IfOk, OnOk, IfErr};
+ghost use Rattle.std.specs.Prelude.{◌≡◌, ◌+◌, ◌≤◌, ◌++◌, length, map, true, refl, IsTrue, IfSome, IfOk, OnOk, IfErr};
 ghost use Rattle.std.specs.Prelude.{OnErr};
 ghost use Rattle.bitcode_memory.specs.Fast.{fast_items, fast_room, cow_rest, fast_capacity, cow_owned};
 ghost use Rattle.bitcode_columns.specs.Reading.{Reads, IsEndOf};
 ghost use Rattle.bitcode_shapes.specs.Shape.{bool_shape};
+ghost use Rattle.bitcode_coder.specs.Coder.{ReadsValue, ReadsValues};
 ghost use Rattle.bitcode_coder.specs.Columns.{bools, one};
 ghost use Rattle.bitcode_coder.specs.ColumnFree.{free_count, saturated};
 ghost use Rattle.bitcode_coder.specs.Spelling.{Spells, truth};
@@ -20,6 +21,7 @@ use bitcode_columns::pack::pack_bools;
 use bitcode_columns::strict::read_bools;
 use bitcode_memory::error::{Error, Reason};
 use bitcode_memory::fast::{CowSlice, FastVec, PushUnchecked};
+use bitcode_shapes::shaped::Shaped;
 use std::alloc::Global;
 use std::mem::replace;
 
@@ -176,6 +178,48 @@ impl<'a> Decoder<bool> for BoolDecoder<'a> {
 
     fn decode_many(&mut self, alloc: Global, count: usize) -> Result<Vec<bool>, Error> {
         self.values.list_unchecked(alloc, count)
+    }
+
+    fn reads_one() -> bool {
+        true
+    }
+
+    #[inline(always)]
+    fn read_one(alloc: Global, input: &mut &[u8]) -> Option<bool>
+        ensures { IfSome result
+            (λ t. ReadsValue ⟦<bool as Shaped>⟧.data.makes bool_shape input.old.now t
+            input.new.now) }
+    {
+        let mut column = BoolDecoder::new(alloc);
+        let Ok(_) = column.read(input, 1, false) else {
+            return None;
+        };
+        let first: Result<bool, Error> = column.decode();
+        let Ok(first) = first else {
+            return None;
+        };
+        Some(first)
+    }
+
+    fn reads_lists() -> bool {
+        true
+    }
+
+    fn read_list(alloc: Global, input: &mut &[u8], count: usize) -> Option<Vec<bool>>
+        ensures { IfSome result
+            (λ items. ReadsValues ⟦<bool as Shaped>⟧.data.makes bool_shape count input.old.now
+            items.items
+            input.new.now) }
+    {
+        let mut column = BoolDecoder::new(alloc);
+        let Ok(_) = column.read(input, count, false) else {
+            return None;
+        };
+        let items: Result<Vec<bool>, Error> = column.decode_many(alloc, count);
+        let Ok(items) = items else {
+            return None;
+        };
+        Some(items)
     }
 
     ghost same_shape = { refl };

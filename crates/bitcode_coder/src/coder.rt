@@ -1,5 +1,5 @@
 //! The four traits that encoders and decoders implement, for single columns and for types.
-ghost use Rattle.std.specs.Prelude.{◌≡◌, ◌≢◌, ℕ, ◌+◌, ◌<◌, ◌≤◌, Bool, List, [], ◌++◌, length, map, IsTrue};
+ghost use Rattle.std.specs.Prelude.{◌≡◌, ◌≢◌, ℕ, ◌+◌, ◌<◌, ◌≤◌, Bool, List, [], ◌++◌, length, map, IsTrue, IfSome};
 ghost use Rattle.std.specs.Prelude.{IsFalse, ◌↔◌, ◌&&◌, IsOk, IfOk, OnOk, IfErr, OnErr, IsErrOf};
 ghost use Rattle.bitcode_memory.specs.declared.error.Reason.{Reason};
 ghost use Rattle.bitcode_columns.specs.Reading.{Reads, IsEndOf};
@@ -13,6 +13,7 @@ ghost use Rattle.bitcode_coder.specs.ColumnFree.{has_entry, free_count, saturate
 ghost use Rattle.bitcode_coder.specs.Coder.{written_columns, BeginsWith, JoinsListing, WritesListing, WritesEach};
 ghost use Rattle.bitcode_coder.specs.Coder.{OverflowsWithListing, JoinsEach, OverflowsWithEach, SurelyOverflows};
 ghost use Rattle.bitcode_coder.specs.Coder.{IsWritingRefusal, IsReadingRefusal, TakesDatum, TakesEach};
+ghost use Rattle.bitcode_coder.specs.Coder.{ReadsValue, ReadsValues};
 
 use crate::column_free::ColumnFree;
 use crate::part::{Behind, Itself, Part, told_parts};
@@ -381,6 +382,37 @@ pub trait Decoder<T: Shaped>: HoldsData {
             items.push_reserved(self.decode()?);
         }
         Ok(items)
+    }
+
+    /// Whether `decode` is to try [`Decoder::read_one`].
+    fn reads_one() -> bool {
+        false
+    }
+
+    /// Reads one value straight from the front of the input, without a decoder. For a record, it takes two thirds of
+    /// the time.
+    ///
+    /// `None` says nothing of the input, which may then begin anywhere: [`View::populate`] tells what is wrong with
+    /// it.
+    fn read_one(_alloc: Global, _input: &mut &[u8]) -> Option<T>
+        ensures { IfSome result
+            (λ t. ReadsValue T.data.makes Self.shape _input.old.now t _input.new.now) }
+    {
+        None
+    }
+
+    /// Whether lists of such values are to be read by [`Decoder::read_list`].
+    fn reads_lists() -> bool {
+        false
+    }
+
+    /// Reads `count` values straight from the front of the input, as [`Decoder::read_one`] reads one.
+    fn read_list(_alloc: Global, _input: &mut &[u8], _count: usize) -> Option<Vec<T>>
+        ensures { IfSome result
+            (λ items. ReadsValues T.data.makes Self.shape _count _input.old.now items.items
+            _input.new.now) }
+    {
+        None
     }
 
     ghost same_shape: { Self.shape ≡ T.data.shape };

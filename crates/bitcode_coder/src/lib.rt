@@ -4,6 +4,7 @@
 pub mod bool;
 pub mod coder;
 pub mod column_free;
+pub mod direct;
 pub mod laws;
 pub mod length;
 pub mod one;

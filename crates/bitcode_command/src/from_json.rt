@@ -2,8 +2,8 @@
 use crate::fault::Fault;
 use crate::from_leaf::read_leaf;
 use crate::json_parts::{
-    JsonMember, find, list_of, list_of_pairs, list_within, members_of_map, members_of_struct,
-    pair_of, result_of, variant_of, wrapped,
+    JsonMember, find, list_for, list_of_pairs, members_of_map, members_of_struct, pair_of,
+    result_of, variant_of, wrapped,
 };
 use crate::json_text::expected;
 use crate::maps::are_distinct;
@@ -80,12 +80,12 @@ impl Source<'_> {
         read_leaf(self.alloc, &Json::String(name), self.types.resolve(node))
     }
 
-    // The value of an array.
-    fn array(&self, values: Vec<Value>) -> Value {
-        if self.second {
-            Value::Tuple(values)
-        } else {
-            Value::Seq(values)
+    // The value of a list of JSON, for a node.
+    fn list(&self, node: &Node, values: Vec<Value>) -> Value {
+        match node {
+            Node::Tuple(_) => Value::Tuple(values),
+            Node::Array(_, _) if self.second => Value::Tuple(values),
+            _ => Value::Seq(values),
         }
     }
 }
@@ -96,23 +96,16 @@ fn read(from: &Source<'_>, json: &Json<'_>, node: &Node, left: usize) -> Result<
     let Some(left) = left.checked_sub(1) else {
         return Err(Fault::new(from.alloc, "the type contains itself without end"));
     };
-    match from.types.resolve(node) {
-        Node::List(limit, element) => {
-            let items = list_within(from.alloc, json, *limit)?;
-            Ok(Value::Seq(read_items(from, items, element, left)?))
-        }
-        Node::Array(element, count) => {
-            let items = list_of(from.alloc, json, *count, "elements")?;
-            Ok(from.array(read_items(from, items, element, left)?))
+    let node = from.types.resolve(node);
+    match node {
+        Node::List(_, element) | Node::Array(element, _) => {
+            read_items(from, json, node, &[], element, left)
         }
         Node::Map(key, part) => read_map(from, json, key, part, left),
-        Node::Tuple(nodes) => {
-            let items = list_of(from.alloc, json, nodes.len(), "fields")?;
-            Ok(Value::Tuple(read_tuple(from, items, nodes, left)?))
-        }
+        Node::Tuple(fields) => read_items(from, json, node, fields, node, left),
         Node::Struct(members) => {
             let given = members_of_struct(from.alloc, json, members)?;
-            Ok(Value::Tuple(read_struct(from, given, members, left)?))
+            read_struct(from, given, members, left)
         }
         Node::Option(inner) => read_option(from, json, inner, left),
         Node::Result(ok, err) => read_result(from, json, ok, err, left),
@@ -121,38 +114,30 @@ fn read(from: &Source<'_>, json: &Json<'_>, node: &Node, left: usize) -> Result<
     }
 }
 
+// The value of a list: its first items are of the fields' nodes, and all others of the element's.
 #[cycle(read)]
 fn read_items(
     from: &Source<'_>,
-    items: &[Json<'_>],
+    json: &Json<'_>,
+    node: &Node,
+    fields: &[Node],
     element: &Node,
     left: usize,
-) -> Result<Vec<Value>, Fault> {
+) -> Result<Value, Fault> {
+    let items = list_for(from.alloc, json, node)?;
     let mut values = Vec::with_capacity(from.alloc, items.len())?;
     for index in 0..items.len() {
-        match read(from, &items[index], element, left) {
+        match read(
+            from,
+            &items[index],
+            fields.get(index).unwrap_or(element),
+            left,
+        ) {
             Ok(value) => values.push(value)?,
             Err(fault) => return Err(fault.in_item(from.alloc, index)),
         }
     }
-    Ok(values)
-}
-
-#[cycle(read)]
-fn read_tuple(
-    from: &Source<'_>,
-    items: &[Json<'_>],
-    nodes: &[Node],
-    left: usize,
-) -> Result<Vec<Value>, Fault> {
-    let mut values = Vec::with_capacity(from.alloc, items.len())?;
-    for (index, (item, node)) in items.iter().zip(nodes).enumerate() {
-        match read(from, item, node, left) {
-            Ok(value) => values.push(value)?,
-            Err(fault) => return Err(fault.in_item(from.alloc, index)),
-        }
-    }
-    Ok(values)
+    Ok(from.list(node, values))
 }
 
 // The fields of a struct. An option may be left out.
@@ -162,7 +147,7 @@ fn read_struct<'a>(
     given: &[JsonMember<'a>],
     members: &[Member],
     left: usize,
-) -> Result<Vec<Value>, Fault> {
+) -> Result<Value, Fault> {
     let mut values = Vec::with_capacity(from.alloc, members.len())?;
     for index in 0..members.len() {
         let member = &members[index];
@@ -175,7 +160,7 @@ fn read_struct<'a>(
             Err(fault) => return Err(fault.in_field(from.alloc, &member.name)),
         }
     }
-    Ok(values)
+    Ok(Value::Tuple(values))
 }
 
 #[cycle(read)]

@@ -14,15 +14,9 @@ const MOST_NANOS: u32 = 999_999_999;
 /// The value of a node without parts.
 pub fn read_leaf(alloc: Global, json: &Json<'_>, node: &Node) -> Result<Value, Fault> {
     match node {
-        Node::Int(kind) => match integer(json, *kind) {
-            Some(value) => Ok(value),
-            None => Err(expected(alloc, name_of(*kind), json)),
-        },
-        Node::NonZero(kind) => match integer(json, *kind) {
-            Some(value) if json.as_number() != Some("0") => Ok(value),
-            Some(_) => Err(expected(alloc, "an integer except 0", json)),
-            None => Err(expected(alloc, name_of(*kind), json)),
-        },
+        Node::NonZero(_) if json.as_number() == Some("0") => {
+            Err(expected(alloc, "an integer except 0", json))
+        }
         Node::Text(limit) => read_text(alloc, json, *limit),
         Node::Duration => read_duration(alloc, json),
         Node::Uuid => read_uuid(alloc, json),
@@ -54,22 +48,23 @@ fn name_of(kind: IntKind) -> &'static str {
 fn integer(json: &Json<'_>, kind: IntKind) -> Option<Value> {
     let text = json.as_number()?;
     match kind {
-        IntKind::U8 => Some(Value::U8(text.parse().ok()?)),
-        IntKind::U16 => Some(Value::U16(text.parse().ok()?)),
-        IntKind::U32 => Some(Value::U32(text.parse().ok()?)),
-        IntKind::U64 => Some(Value::U64(text.parse().ok()?)),
-        IntKind::U128 => Some(Value::U128(text.parse().ok()?)),
-        IntKind::I8 => Some(Value::I8(text.parse().ok()?)),
-        IntKind::I16 => Some(Value::I16(text.parse().ok()?)),
-        IntKind::I32 => Some(Value::I32(text.parse().ok()?)),
-        IntKind::I64 => Some(Value::I64(text.parse().ok()?)),
-        IntKind::I128 => Some(Value::I128(text.parse().ok()?)),
+        IntKind::U8 => text.parse().ok().map(Value::U8),
+        IntKind::U16 => text.parse().ok().map(Value::U16),
+        IntKind::U32 => text.parse().ok().map(Value::U32),
+        IntKind::U64 => text.parse().ok().map(Value::U64),
+        IntKind::U128 => text.parse().ok().map(Value::U128),
+        IntKind::I8 => text.parse().ok().map(Value::I8),
+        IntKind::I16 => text.parse().ok().map(Value::I16),
+        IntKind::I32 => text.parse().ok().map(Value::I32),
+        IntKind::I64 => text.parse().ok().map(Value::I64),
+        IntKind::I128 => text.parse().ok().map(Value::I128),
     }
 }
 
 // What is expected of a node that `plain` reads.
 fn plain_name(node: &Node) -> &'static str {
     match node {
+        Node::Int(kind) | Node::NonZero(kind) => name_of(*kind),
         Node::Unit => "null",
         Node::Bool => "true or false",
         Node::Char => "a text of one character",
@@ -80,11 +75,12 @@ fn plain_name(node: &Node) -> &'static str {
 
 fn plain(json: &Json<'_>, node: &Node) -> Option<Value> {
     match node {
+        Node::Int(kind) | Node::NonZero(kind) => integer(json, *kind),
         Node::Unit if json.is_null() => Some(Value::Unit),
-        Node::Bool => Some(Value::Bool(json.as_bool()?)),
-        Node::Char => Some(Value::Char(character(json.as_str()?)?)),
-        Node::F32 => Some(Value::F32(float32(json)?)),
-        Node::F64 => Some(Value::F64(float64(json)?)),
+        Node::Bool => json.as_bool().map(Value::Bool),
+        Node::Char => character(json.as_str()?).map(Value::Char),
+        Node::F32 => float32(json).map(Value::F32),
+        Node::F64 => float64(json).map(Value::F64),
         _ => None,
     }
 }

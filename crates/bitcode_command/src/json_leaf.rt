@@ -27,19 +27,20 @@ pub fn write_leaf(
 
 // An integer, whose digits JSON has all.
 fn write_integer(value: &Value, out: &mut Writer) -> Result<bool, AllocError> {
-    match value {
-        Value::U8(n) => out.u64(*n as u64)?,
-        Value::U16(n) => out.u64(*n as u64)?,
-        Value::U32(n) => out.u64(*n as u64)?,
-        Value::U64(n) => out.u64(*n)?,
-        Value::I8(n) => out.i64(*n as i64)?,
-        Value::I16(n) => out.i64(*n as i64)?,
-        Value::I32(n) => out.i64(*n as i64)?,
-        Value::I64(n) => out.i64(*n)?,
-        Value::U128(n) => write_number(itoa::Buffer::new().format(*n), out)?,
-        Value::I128(n) => write_number(itoa::Buffer::new().format(*n), out)?,
+    let written = match value {
+        Value::U8(n) => out.u64(*n as u64),
+        Value::U16(n) => out.u64(*n as u64),
+        Value::U32(n) => out.u64(*n as u64),
+        Value::U64(n) => out.u64(*n),
+        Value::I8(n) => out.i64(*n as i64),
+        Value::I16(n) => out.i64(*n as i64),
+        Value::I32(n) => out.i64(*n as i64),
+        Value::I64(n) => out.i64(*n),
+        Value::U128(n) => write_number(itoa::Buffer::new().format(*n), out),
+        Value::I128(n) => write_number(itoa::Buffer::new().format(*n), out),
         _ => return Ok(false),
-    }
+    };
+    written?;
     Ok(true)
 }
 
@@ -53,15 +54,16 @@ fn write_number(digits: &str, out: &mut Writer) -> Result<(), AllocError> {
 }
 
 fn write_other(value: &Value, out: &mut Writer) -> Result<bool, AllocError> {
-    match value {
-        Value::Unit => out.null()?,
-        Value::Bool(b) => out.boolean(*b)?,
-        Value::F32(x) => write_f32(*x, out)?,
-        Value::F64(x) => write_f64(*x, out)?,
-        Value::Char(c) => out.string(c.encode_utf8(&mut [0; 4]))?,
-        Value::Str(text) => out.string(text)?,
+    let written = match value {
+        Value::Unit => out.null(),
+        Value::Bool(b) => out.boolean(*b),
+        Value::F32(x) => write_f32(*x, out),
+        Value::F64(x) => write_f64(*x, out),
+        Value::Char(c) => out.string(c.encode_utf8(&mut [0; 4])),
+        Value::Str(text) => out.string(text),
         _ => return Ok(false),
-    }
+    };
+    written?;
     Ok(true)
 }
 

@@ -10,8 +10,22 @@ use std::alloc::Global;
 /// A member of an object: its name and its value.
 pub type JsonMember<'a> = (&'a str, Value<'a>);
 
-/// The items of a list, of at most so many.
-pub fn list_within<'v, 'a>(
+/// The items of the list that stands for a list, an array or a tuple.
+pub fn list_for<'v, 'a>(
+    alloc: Global,
+    json: &'v Value<'a>,
+    node: &Node,
+) -> Result<&'v Vec<Value<'a>>, Fault> {
+    match node {
+        Node::Array(_, count) => list_of(alloc, json, *count, "elements"),
+        Node::Tuple(fields) => list_of(alloc, json, fields.len(), "fields"),
+        Node::List(limit, _) => list_within(alloc, json, *limit),
+        _ => list_within(alloc, json, None),
+    }
+}
+
+// The items of a list, of at most so many.
+fn list_within<'v, 'a>(
     alloc: Global,
     json: &'v Value<'a>,
     limit: Option<usize>,
@@ -28,8 +42,8 @@ pub fn list_within<'v, 'a>(
     }
 }
 
-/// The items of a list of so many.
-pub fn list_of<'v, 'a>(
+// The items of a list of so many.
+fn list_of<'v, 'a>(
     alloc: Global,
     json: &'v Value<'a>,
     count: usize,

@@ -26,17 +26,28 @@ pub fn read_schema(alloc: Global, text: &str) -> Result<Types, Fault> {
         return Err(expected(alloc, "an object with `root` and `types`", &file));
     };
     let empty = Value::Object(Vec::new(alloc));
-    let types = match members_of(alloc, file.get("types").unwrap_or(&empty)) {
+    read_file(alloc, &file, file.get("types").unwrap_or(&empty))
+}
+
+// The types that are declared in a file, and the node of the whole value.
+fn read_file<'a>(alloc: Global, file: &Value<'a>, types: &Value<'a>) -> Result<Types, Fault> {
+    let types = match members_of(alloc, types) {
         Ok(types) => types,
         Err(fault) => return Err(fault.in_field(alloc, "types")),
     };
     let names = names_of(alloc, types)?;
     let nodes = read_types(alloc, types, &names)?;
+    let root = read_root(alloc, file, &names)?;
+    Ok(Types { nodes, root })
+}
+
+// The node of the whole value.
+fn read_root<'a>(alloc: Global, file: &Value<'a>, names: &Names<'a>) -> Result<Node, Fault> {
     let Some(part) = file.get("root") else {
         return Err(Fault::new(alloc, "expected `root`"));
     };
-    match read_node(alloc, part, &names, MOST_DEEP) {
-        Ok(root) => Ok(Types { nodes, root }),
+    match read_node(alloc, part, names, MOST_DEEP) {
+        Ok(root) => Ok(root),
         Err(fault) => Err(fault.in_field(alloc, "root")),
     }
 }
@@ -139,22 +150,55 @@ fn read_composite<'a>(
     left: usize,
 ) -> Result<Node, Fault> {
     match name {
-        "Vec" => Ok(Node::List(
-            None,
-            Box::new(alloc, read_node(alloc, value, names, left)?)?,
-        )),
-        "Option" => Ok(Node::Option(Box::new(alloc, read_node(alloc, value, names, left)?)?)),
-        "ArrayString" => Ok(Node::Text(Some(read_number(alloc, value)?))),
+        "Vec" | "Option" => read_one(alloc, value, name, names, left),
+        "ArrayString" => read_text(alloc, value),
         "ArrayVec" | "array" => read_counted(alloc, value, name, names, left),
         "BTreeMap" | "Result" => read_two(alloc, value, name, names, left),
-        "tuple" => Ok(Node::Tuple(read_nodes(alloc, items_of(alloc, value)?, names, left)?)),
-        "struct" => Ok(Node::Struct(read_members(alloc, members_of(alloc, value)?, names, left)?)),
-        "enum" => Ok(Node::Enum(read_members(alloc, members_of(alloc, value)?, names, left)?)),
-        _ => {
-            let what = format!(in alloc; "`{name}` is no type with parameters")?;
-            Err(Fault::new(alloc, what.as_str()))
-        }
+        "tuple" => read_tuple(alloc, value, names, left),
+        "struct" | "enum" => read_members(alloc, value, name, names, left),
+        _ => Err(without_parameters(alloc, name)),
     }
+}
+
+// What is said of a name that has no parameters.
+fn without_parameters(alloc: Global, name: &str) -> Fault {
+    match format!(in alloc; "`{name}` is no type with parameters") {
+        Ok(what) => Fault::new(alloc, what.as_str()),
+        Err(_) => Fault::OutOfMemory,
+    }
+}
+
+// A text of at most so many bytes.
+fn read_text(alloc: Global, value: &Value<'_>) -> Result<Node, Fault> {
+    Ok(Node::Text(Some(read_number(alloc, value)?)))
+}
+
+// A list or an option: the node inside.
+#[cycle(schema)]
+fn read_one<'a>(
+    alloc: Global,
+    value: &Value<'a>,
+    name: &str,
+    names: &Names<'a>,
+    left: usize,
+) -> Result<Node, Fault> {
+    let inner = read_box(alloc, value, names, left)?;
+    if name == "Vec" {
+        Ok(Node::List(None, inner))
+    } else {
+        Ok(Node::Option(inner))
+    }
+}
+
+#[cycle(schema)]
+fn read_box<'a>(
+    alloc: Global,
+    value: &Value<'a>,
+    names: &Names<'a>,
+    left: usize,
+) -> Result<Box<Node>, Fault> {
+    let node = read_node(alloc, value, names, left)?;
+    Ok(Box::new(alloc, node)?)
 }
 
 // A number of elements or bytes.
@@ -177,8 +221,8 @@ fn read_counted<'a>(
     let [element, count] = items_of(alloc, value)?.as_slice() else {
         return Err(expected(alloc, "a list of a type and a number", value));
     };
-    let element = match read_node(alloc, element, names, left) {
-        Ok(node) => Box::new(alloc, node)?,
+    let element = match read_box(alloc, element, names, left) {
+        Ok(element) => element,
         Err(fault) => return Err(fault.in_item(alloc, 0)),
     };
     match read_number(alloc, count) {
@@ -200,12 +244,12 @@ fn read_two<'a>(
     let [first, second] = items_of(alloc, value)?.as_slice() else {
         return Err(expected(alloc, "a list of two types", value));
     };
-    let first = match read_node(alloc, first, names, left) {
-        Ok(node) => Box::new(alloc, node)?,
+    let first = match read_box(alloc, first, names, left) {
+        Ok(first) => first,
         Err(fault) => return Err(fault.in_item(alloc, 0)),
     };
-    let second = match read_node(alloc, second, names, left) {
-        Ok(node) => Box::new(alloc, node)?,
+    let second = match read_box(alloc, second, names, left) {
+        Ok(second) => second,
         Err(fault) => return Err(fault.in_item(alloc, 1)),
     };
     if name == "Result" {
@@ -215,48 +259,59 @@ fn read_two<'a>(
     }
 }
 
-// The nodes of a tuple.
+// A tuple: a list of its nodes.
 #[cycle(schema)]
-fn read_nodes<'a>(
+fn read_tuple<'a>(
     alloc: Global,
-    values: &[Value<'a>],
+    value: &Value<'a>,
     names: &Names<'a>,
     left: usize,
-) -> Result<Vec<Node>, Fault> {
+) -> Result<Node, Fault> {
+    let items = items_of(alloc, value)?;
     let mut nodes = Vec::new(alloc);
-    for index in 0..values.len() {
-        match read_node(alloc, &values[index], names, left) {
+    for index in 0..items.len() {
+        match read_node(alloc, &items[index], names, left) {
             Ok(node) => nodes.push(node)?,
             Err(fault) => return Err(fault.in_item(alloc, index)),
         }
     }
-    Ok(nodes)
+    Ok(Node::Tuple(nodes))
 }
 
-// The fields of a struct, or the variants of an enum.
+// A struct or an enum: an object of the fields, or of the variants.
 #[cycle(schema)]
 fn read_members<'a>(
     alloc: Global,
-    values: &[(&'a str, Value<'a>)],
+    value: &Value<'a>,
+    name: &str,
     names: &Names<'a>,
     left: usize,
-) -> Result<Vec<Member>, Fault> {
+) -> Result<Node, Fault> {
     let mut members = Vec::new(alloc);
-    for member in values {
-        let node = match read_node(alloc, &member.1, names, left) {
-            Ok(node) => node,
+    for member in members_of(alloc, value)? {
+        match read_node(alloc, &member.1, names, left) {
+            Ok(node) => push_member(alloc, &mut members, member.0, node)?,
             Err(fault) => return Err(fault.in_field(alloc, member.0)),
-        };
-        let name = read_member_name(alloc, member.0)?;
-        members.push(Member { name, node })?;
+        }
     }
-    Ok(members)
+    if name == "struct" {
+        Ok(Node::Struct(members))
+    } else {
+        Ok(Node::Enum(members))
+    }
 }
 
-// The name of a field or a variant.
-fn read_member_name(alloc: Global, name: &str) -> Result<String, Fault> {
+// Adds a field or a variant.
+fn push_member(
+    alloc: Global,
+    members: &mut Vec<Member>,
+    name: &str,
+    node: Node,
+) -> Result<(), Fault> {
     if name.len() > MOST_IN_NAME {
         return Err(Fault::new(alloc, "a name has more than 255 bytes"));
     }
-    Ok(String::from_str(alloc, name)?)
+    let name = String::from_str(alloc, name)?;
+    members.push(Member { name, node })?;
+    Ok(())
 }

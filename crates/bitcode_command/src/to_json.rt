@@ -63,6 +63,24 @@ impl Target<'_> {
         }
     }
 
+    // Begins a list, and gives the room inside.
+    fn begin_array(&self, room: Room, out: &mut Writer) -> Result<Room, Fault>
+        ensures { IfOk result (λ inside. inside.left ≡ room.left) }
+    {
+        let inside = self.inside(room)?;
+        out.begin_array()?;
+        Ok(inside)
+    }
+
+    // Begins an object, and gives the room inside.
+    fn begin_object(&self, room: Room, out: &mut Writer) -> Result<Room, Fault>
+        ensures { IfOk result (λ inside. inside.left ≡ room.left) }
+    {
+        let inside = self.inside(room)?;
+        out.begin_object()?;
+        Ok(inside)
+    }
+
     // The room inside a list or an object.
     fn inside(&self, room: Room) -> Result<Room, Fault>
         ensures { IfOk result (λ inside. inside.left ≡ room.left) }
@@ -97,6 +115,14 @@ impl Target<'_> {
         }
     }
 
+    // The values of a list, an array or a tuple.
+    fn items<'v>(&self, value: &'v Value, node: &Node) -> Result<&'v Vec<Value>, Fault> {
+        match node {
+            Node::Tuple(fields) => self.fields(value, fields.len()),
+            _ => self.elements(value),
+        }
+    }
+
     // The keys and values of a map.
     fn pairs<'v>(&self, value: &'v Value) -> Result<&'v Vec<(Value, Value)>, Fault> {
         match value {
@@ -114,6 +140,14 @@ impl Target<'_> {
     }
 }
 
+fn end_array(out: &mut Writer) -> Result<(), Fault> {
+    Ok(out.end_array()?)
+}
+
+fn end_object(out: &mut Writer) -> Result<(), Fault> {
+    Ok(out.end_object()?)
+}
+
 #[cycle(write)]
 fn write(
     to: &Target<'_>,
@@ -123,14 +157,14 @@ fn write(
     out: &mut Writer,
 ) -> Result<(), Fault> {
     let room = to.below(room)?;
-    match to.types.resolve(node) {
-        Node::List(_, element) => write_items(to, to.elements(value)?, element, room, out),
-        Node::Array(element, _) => write_items(to, to.elements(value)?, element, room, out),
-        Node::Map(key, part) => write_map(to, to.pairs(value)?, key, part, room, out),
-        Node::Tuple(nodes) => { write_tuple(to, to.fields(value, nodes.len())?, nodes, room, out) }
-        Node::Struct(members) => {
-            write_struct(to, to.fields(value, members.len())?, members, room, out)
+    let node = to.types.resolve(node);
+    match node {
+        Node::List(_, element) | Node::Array(element, _) => {
+            write_items(to, value, node, &[], element, room, out)
         }
+        Node::Map(key, part) => write_map(to, value, key, part, room, out),
+        Node::Tuple(fields) => write_items(to, value, node, fields, node, room, out),
+        Node::Struct(members) => write_struct(to, value, members, room, out),
         Node::Option(inner) => write_option(to, value, inner, room, out),
         Node::Result(ok, err) => write_result(to, value, ok, err, room, out),
         Node::Enum(variants) => write_variant(to, value, variants, room, out),
@@ -138,70 +172,57 @@ fn write(
     }
 }
 
+// A list: its first values are of the fields' nodes, and all others of the element's.
 #[cycle(write)]
 fn write_items(
     to: &Target<'_>,
-    values: &[Value],
+    value: &Value,
+    node: &Node,
+    fields: &[Node],
     element: &Node,
     room: Room,
     out: &mut Writer,
 ) -> Result<(), Fault> {
-    let inside = to.inside(room)?;
-    out.begin_array()?;
+    let values = to.items(value, node)?;
+    let inside = to.begin_array(room, out)?;
     for index in 0..values.len() {
-        if let Err(fault) = write(to, &values[index], element, inside, out) {
+        let node = fields.get(index).unwrap_or(element);
+        if let Err(fault) = write(to, &values[index], node, inside, out) {
             return Err(fault.in_item(to.alloc, index));
         }
     }
-    Ok(out.end_array()?)
-}
-
-#[cycle(write)]
-fn write_tuple(
-    to: &Target<'_>,
-    values: &[Value],
-    nodes: &[Node],
-    room: Room,
-    out: &mut Writer,
-) -> Result<(), Fault> {
-    let inside = to.inside(room)?;
-    out.begin_array()?;
-    for (index, (value, node)) in values.iter().zip(nodes).enumerate() {
-        if let Err(fault) = write(to, value, node, inside, out) {
-            return Err(fault.in_item(to.alloc, index));
-        }
-    }
-    Ok(out.end_array()?)
+    end_array(out)
 }
 
 #[cycle(write)]
 fn write_struct(
     to: &Target<'_>,
-    values: &[Value],
+    value: &Value,
     members: &[Member],
     room: Room,
     out: &mut Writer,
 ) -> Result<(), Fault> {
-    let inside = to.inside(room)?;
-    out.begin_object()?;
+    let values = to.fields(value, members.len())?;
+    let inside = to.begin_object(room, out)?;
     for (value, member) in values.iter().zip(members) {
         out.key(&member.name)?;
         if let Err(fault) = write(to, value, &member.node, inside, out) {
             return Err(fault.in_field(to.alloc, &member.name));
         }
     }
-    Ok(out.end_object()?)
+    end_object(out)
 }
 
 #[cycle(write)]
 fn write_map(
     to: &Target<'_>,
-    pairs: &[(Value, Value)],
+    value: &Value,
     key: &Node,
     part: &Node,
     room: Room,
     out: &mut Writer,
 ) -> Result<(), Fault> {
+    let pairs = to.pairs(value)?;
     if has_text_keys(to.types, key) && are_distinct(to.alloc, pairs)? {
         write_object(to, pairs, part, room, out)
     } else {
@@ -218,8 +239,7 @@ fn write_object(
     room: Room,
     out: &mut Writer,
 ) -> Result<(), Fault> {
-    let inside = to.inside(room)?;
-    out.begin_object()?;
+    let inside = to.begin_object(room, out)?;
     for index in 0..pairs.len() {
         let pair = &pairs[index];
         let Value::Str(key) = &pair.0 else {
@@ -230,7 +250,7 @@ fn write_object(
             return Err(fault.in_field(to.alloc, key));
         }
     }
-    Ok(out.end_object()?)
+    end_object(out)
 }
 
 // Any other map: a list of pairs.
@@ -243,21 +263,19 @@ fn write_pairs(
     room: Room,
     out: &mut Writer,
 ) -> Result<(), Fault> {
-    let inside = to.inside(room)?;
-    out.begin_array()?;
+    let inside = to.begin_array(room, out)?;
     for index in 0..pairs.len() {
         let pair = &pairs[index];
-        let in_pair = to.inside(inside)?;
-        out.begin_array()?;
+        let in_pair = to.begin_array(inside, out)?;
         if let Err(fault) = write(to, &pair.0, key, in_pair, out) {
             return Err(fault.in_item(to.alloc, 0).in_item(to.alloc, index));
         }
         if let Err(fault) = write(to, &pair.1, part, in_pair, out) {
             return Err(fault.in_item(to.alloc, 1).in_item(to.alloc, index));
         }
-        out.end_array()?;
+        end_array(out)?;
     }
-    Ok(out.end_array()?)
+    end_array(out)
 }
 
 #[cycle(write)]
@@ -325,11 +343,10 @@ fn write_payload(
     room: Room,
     out: &mut Writer,
 ) -> Result<(), Fault> {
-    let inside = to.inside(room)?;
-    out.begin_object()?;
+    let inside = to.begin_object(room, out)?;
     out.key(name)?;
     match write(to, value, node, inside, out) {
-        Ok(()) => Ok(out.end_object()?),
+        Ok(()) => end_object(out),
         Err(fault) => Err(fault.in_field(to.alloc, name)),
     }
 }

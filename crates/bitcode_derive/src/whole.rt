@@ -1,5 +1,5 @@
 //! Calls for whole values: encoding one value, and decoding all bytes of an input or a prefix of it.
-ghost use Rattle.std.specs.Prelude.{◌≢◌, ℕ, List, IsErrOf, IfOk, OnOk, IfErr, OnErr};
+ghost use Rattle.std.specs.Prelude.{◌≢◌, ℕ, List, IsErrOf, IfSome, IfOk, OnOk, IfErr, OnErr};
 ghost use Rattle.bitcode_columns.specs.Reading.{IsEndOf};
 ghost use Rattle.bitcode_shapes.specs.Datum.{Datum};
 ghost use Rattle.bitcode_coder.specs.Coder.{BeginsWith, IsWritingRefusal, IsReadingReason};
@@ -77,10 +77,32 @@ where
     Ok(bytes)
 }
 
+// Reads a value straight from the front of the input, if its decoder does that, and gives what is left behind it.
+#[inline(always)]
+fn read_front<'a, T: Shaped, D: Decoder<T>>(alloc: Global, bytes: &'a [u8]) -> Option<(T, &'a [u8])>
+    ensures { IfSome result
+        (λ read. IsDecodingOfFront T.data.makes T.data.shape bytes.now read.0 read.1.now) }
+{
+    if !D::reads_one() {
+        return None;
+    }
+    let mut rest = bytes;
+    let t = D::read_one(alloc, &mut rest)?;
+    Some((t, rest))
+}
+
+// Reads a value straight from the whole input, if its decoder does that and nothing is left behind it.
+#[inline(always)]
+fn read_whole<T: Shaped + Drop, D: Decoder<T>>(alloc: Global, bytes: &[u8]) -> Option<T>
+    ensures { IfSome result (λ t. IsDecodingOf T.data.makes T.data.shape bytes.now t) }
+{
+    let (t, rest) = read_front::<T, D>(alloc, bytes)?;
+    if rest.is_empty() { Some(t) } else { None }
+}
+
 /// Decodes the bytes, which must encode exactly one value.
 ///
-/// It validates the input completely before it makes the value, and accepts no trailing bytes. The call keeps no
-/// memory.
+/// It validates the input completely, and accepts no trailing bytes. The call keeps no memory.
 ///
 /// Errors: the first fault of the input, `Expected EOF` if bytes are left after the value, and `out of memory` if an
 /// allocation fails: for a column, once all its bytes are there, or for the value, once the bytes are known to encode
@@ -107,6 +129,9 @@ where
         (λ e. NamesWholeFault T.Decoder.makes_free T.Decoder.shape e.reason
         bytes.now) }
 {
+    if let Some(t) = read_whole::<T, T::Decoder>(alloc, bytes) {
+        return Ok(t);
+    }
     let mut input = bytes;
     let mut decoder = T::Decoder::new(alloc);
     decoder.populate(&mut input, 1)?;
@@ -193,7 +218,7 @@ where
 
 /// Decodes the one value at the front of the input, and advances the input past it.
 ///
-/// It validates all of that prefix before it makes the value.
+/// It validates all of that prefix.
 ///
 /// Errors: the first fault of the input, and `out of memory` if an allocation fails: for a column, once all its bytes
 /// are there, or for the value, once a prefix is known to encode one. The input is then a suffix of what it was. Every
@@ -224,6 +249,10 @@ where
         input.old.now) }
     ensures rest { OnErr result (IsEndOf input.old.now input.new.now) }
 {
+    if let Some((t, rest)) = read_front::<T, T::Decoder>(alloc, *input) {
+        *input = rest;
+        return Ok(t);
+    }
     let mut decoder = T::Decoder::new(alloc);
     decoder.populate(input, 1)?;
     let mut unshared = decoder;

@@ -1,7 +1,8 @@
 //! The decoder of enums: it reads all variants, and then the payloads of each variant.
 ghost use Rattle.std.proofs.Common.{sym};
-ghost use Rattle.std.specs.Prelude.{◌≡◌, ◌+◌};
+ghost use Rattle.std.specs.Prelude.{◌≡◌, ◌+◌, IfSome};
 ghost use Rattle.bitcode_shapes.specs.Shape.{choice_shape};
+ghost use Rattle.bitcode_coder.specs.Coder.{ReadsValue, ReadsValues};
 ghost use Rattle.bitcode_coder.specs.ColumnFree.{saturated};
 ghost use Rattle.bitcode_parts.specs.Payloads.{choices_of};
 ghost use Rattle.bitcode_parts.specs.Variants.{variants_left, variants_owned};
@@ -92,6 +93,30 @@ impl<'a, const N: usize, T: EnumOf<N>, D: VariantPayloads<'a, At<0>, At<N>, T>> 
         self.payloads.sized();
         let variant = self.variants.decode();
         self.payloads.decode_at(variant as usize)
+    }
+
+    // All four are written here: the toolchain does not allow the trait's own where a size depends on `N`.
+    fn reads_one() -> bool {
+        false
+    }
+
+    fn read_one(_alloc: Global, _input: &mut &[u8]) -> Option<T>
+        ensures { IfSome result (λ t. ReadsValue T.data.makes (choice_shape T.each.variants.shapes)
+            _input.old.now t _input.new.now) }
+    {
+        None
+    }
+
+    fn reads_lists() -> bool {
+        false
+    }
+
+    fn read_list(_alloc: Global, _input: &mut &[u8], _count: usize) -> Option<Vec<T>>
+        ensures { IfSome result
+            (λ items. ReadsValues T.data.makes (choice_shape T.each.variants.shapes) _count
+            _input.old.now items.items _input.new.now) }
+    {
+        None
     }
 
     ghost same_shape = { sym T.counted.1 };

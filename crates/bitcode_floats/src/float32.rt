@@ -1,5 +1,5 @@
 //! The coders of a column of `f32`.
-ghost use Rattle.std.specs.Prelude.{◌≡◌, ◌+◌, ◌≤◌, ◌++◌, length, map, true, refl, IsTrue, IfOk, OnOk, IfErr};
+ghost use Rattle.std.specs.Prelude.{◌≡◌, ◌+◌, ◌≤◌, ◌++◌, length, map, true, refl, IsTrue, IfSome, IfOk, OnOk, IfErr};
 ghost use Rattle.std.specs.Prelude.{OnErr};
 ghost use Rattle.std.specs.Float.{binary32};
 ghost use Rattle.bitcode_memory.specs.Fast.{fast_items, fast_room, fast_capacity};
@@ -9,7 +9,7 @@ ghost use Rattle.bitcode_shapes.specs.Shape.{float_shape};
 ghost use Rattle.bitcode_coder.specs.ColumnFree.{free_count, saturated};
 ghost use Rattle.bitcode_coder.specs.Columns.{floats, one};
 ghost use Rattle.bitcode_coder.specs.Spelling.{Spells};
-ghost use Rattle.bitcode_coder.specs.Coder.{IsReadingRefusal};
+ghost use Rattle.bitcode_coder.specs.Coder.{IsReadingRefusal, ReadsValue, ReadsValues};
 ghost use Rattle.bitcode_coder.specs.FirstFault.{IsFirstFault};
 ghost use Rattle.bitcode_coder.specs.Strict.{JudgesData};
 ghost use Rattle.bitcode_floats.specs.Floats.{data_of_floats, data_of_bits};
@@ -20,6 +20,7 @@ use bitcode_coder::part::Part;
 use bitcode_float_columns::split::{SplitBits, pack_f32s, read_f32s};
 use bitcode_memory::error::{Error, Reason};
 use bitcode_memory::fast::{FastVec, PushUnchecked};
+use bitcode_shapes::shaped::Shaped;
 use std::alloc::Global;
 use std::mem::replace;
 use std::num::f32_from_bits_with_nan;
@@ -186,6 +187,45 @@ impl<'a> Decoder<f32> for F32Decoder<'a> {
 
     fn decode_many(&mut self, alloc: Global, count: usize) -> Result<Vec<f32>, Error> {
         self.bits.floats_unchecked(alloc, count)
+    }
+
+    fn reads_one() -> bool {
+        true
+    }
+
+    #[inline(always)]
+    fn read_one(alloc: Global, input: &mut &[u8]) -> Option<f32>
+        ensures { IfSome result
+            (λ t. ReadsValue ⟦<f32 as Shaped>⟧.data.makes (float_shape binary32) input.old.now t
+            input.new.now) }
+    {
+        let mut column = F32Decoder::new(alloc);
+        let Ok(_) = column.read(input, 1, false) else {
+            return None;
+        };
+        let Ok(first) = column.decode() else {
+            return None;
+        };
+        Some(first)
+    }
+
+    fn reads_lists() -> bool {
+        true
+    }
+
+    fn read_list(alloc: Global, input: &mut &[u8], count: usize) -> Option<Vec<f32>>
+        ensures { IfSome result
+            (λ items. ReadsValues ⟦<f32 as Shaped>⟧.data.makes (float_shape binary32) count
+            input.old.now items.items input.new.now) }
+    {
+        let mut column = F32Decoder::new(alloc);
+        let Ok(_) = column.read(input, count, false) else {
+            return None;
+        };
+        let Ok(items) = column.decode_many(alloc, count) else {
+            return None;
+        };
+        Some(items)
     }
 
     ghost same_shape = { refl };

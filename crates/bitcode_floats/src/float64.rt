@@ -1,6 +1,6 @@
 //! The coders of a column of `f64`: their bits, as integers.
 ghost use Rattle.std.specs.Prelude.{◌≡◌, ◌+◌, ◌≤◌, ◌++◌, length, map, to_bits, from_bits, true, refl, All};
-ghost use Rattle.std.specs.Prelude.{IsTrue, IsOk, IfOk, OnOk, IfErr, OnErr, MatchBool};
+ghost use Rattle.std.specs.Prelude.{IsTrue, IsOk, IfSome, IfOk, OnOk, IfErr, OnErr, MatchBool};
 ghost use Rattle.std.specs.Float.{binary64};
 ghost use Rattle.bitcode_memory.specs.Fast.{fast_items, fast_room, fast_capacity, cow_rest, cow_owned};
 ghost use Rattle.bitcode_columns.specs.Reading.{Reads, IsEndOf};
@@ -9,7 +9,7 @@ ghost use Rattle.bitcode_shapes.specs.Shape.{float_shape};
 ghost use Rattle.bitcode_coder.specs.ColumnFree.{free_count, saturated};
 ghost use Rattle.bitcode_coder.specs.Columns.{floats, one};
 ghost use Rattle.bitcode_coder.specs.Spelling.{Spells, natural};
-ghost use Rattle.bitcode_coder.specs.Coder.{IsReadingRefusal};
+ghost use Rattle.bitcode_coder.specs.Coder.{IsReadingRefusal, ReadsValue, ReadsValues};
 ghost use Rattle.bitcode_coder.specs.FirstFault.{IsFirstFault};
 ghost use Rattle.bitcode_coder.specs.Strict.{JudgesData};
 ghost use Rattle.bitcode_floats.specs.Floats.{data_of_bits, long_bits, residue_of};
@@ -22,6 +22,7 @@ use bitcode_float_columns::bits::{bits_of_f64s, is_canonical_f64};
 use bitcode_int_columns::column_int::ColumnInt;
 use bitcode_memory::error::{Error, Reason};
 use bitcode_memory::fast::{CowSlice, FastVec, PushUnchecked};
+use bitcode_shapes::shaped::Shaped;
 use std::alloc::Global;
 use std::mem::replace;
 use std::num::{f64_from_bits_with_nan, f64_to_bits_with_nan};
@@ -269,6 +270,45 @@ impl<'a> Decoder<f64> for F64Decoder<'a> {
 
     fn decode_many(&mut self, alloc: Global, count: usize) -> Result<Vec<f64>, Error> {
         floats_of(alloc, self.values.chunk_unchecked(count))
+    }
+
+    fn reads_one() -> bool {
+        true
+    }
+
+    #[inline(always)]
+    fn read_one(alloc: Global, input: &mut &[u8]) -> Option<f64>
+        ensures { IfSome result
+            (λ t. ReadsValue ⟦<f64 as Shaped>⟧.data.makes (float_shape binary64) input.old.now t
+            input.new.now) }
+    {
+        let mut column = F64Decoder::new(alloc);
+        let Ok(_) = column.read(input, 1, false) else {
+            return None;
+        };
+        let Ok(first) = column.decode() else {
+            return None;
+        };
+        Some(first)
+    }
+
+    fn reads_lists() -> bool {
+        true
+    }
+
+    fn read_list(alloc: Global, input: &mut &[u8], count: usize) -> Option<Vec<f64>>
+        ensures { IfSome result
+            (λ items. ReadsValues ⟦<f64 as Shaped>⟧.data.makes (float_shape binary64) count
+            input.old.now items.items input.new.now) }
+    {
+        let mut column = F64Decoder::new(alloc);
+        let Ok(_) = column.read(input, count, false) else {
+            return None;
+        };
+        let Ok(items) = column.decode_many(alloc, count) else {
+            return None;
+        };
+        Some(items)
     }
 
     ghost same_shape = { refl };

@@ -125,6 +125,7 @@ fn int_bounds<T: Int>(entries: &[T::Une]) -> Option<(T, T)>
 /// Reads a column of integers of more than one byte as [`unpack_ints`](crate::pack_ints::unpack_ints) does. If
 /// `strict`, it returns whether the bytes are those that would be written for the integers. Otherwise the returned bool
 /// has no meaning.
+#[inline(always)]
 pub fn read_ints<'a, T: Int>(
     alloc: Global,
     input: &mut &'a [u8],

@@ -313,6 +313,8 @@ impl<'a, T: ColumnInt> View<'a> for IntDecoder<'a, T> {
         }
     }
 
+    // Inlined, with all that it calls to read a column, so that nothing is left of the cases that one integer lacks.
+    #[inline(always)]
     fn read(&mut self, input: &mut &'a [u8], k: usize, strict: bool) -> Result<bool, Error>
         ensures read { OnOk result
             (Reads (Spells (int_shape T.width T.signed)) k input.old.now

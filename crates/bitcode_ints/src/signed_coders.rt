@@ -1,12 +1,15 @@
 // Written by scripts/tables/integers.
 //! The coders of signed integers, each a struct without parameters.
-ghost use Rattle.std.specs.Prelude.{refl};
+ghost use Rattle.std.specs.Prelude.{refl, IfSome};
+ghost use Rattle.bitcode_coder.specs.Coder.{ReadsValue, ReadsValues};
 
 use crate::int::{IntDecoder, IntEncoder};
 use bitcode_coder::coder::{Buffer, Decoder, Encoder, HoldsColumns, HoldsData, View};
 use bitcode_coder::column_free::ColumnFree;
+use bitcode_coder::direct::{list_by_decoder, one_by_decoder};
 use bitcode_coder::part::Part;
 use bitcode_memory::error::Error;
+use bitcode_shapes::shaped::Shaped;
 use std::alloc::Global;
 
 /// The column that values of `i8` are written to, as to `IntEncoder<i8>`.
@@ -138,6 +141,30 @@ impl<'a> Decoder<i8> for I8Decoder<'a> {
 
     fn decode_many(&mut self, alloc: Global, count: usize) -> Result<Vec<i8>, Error> {
         self.column.decode_many(alloc, count)
+    }
+
+    fn reads_one() -> bool {
+        true
+    }
+
+    #[inline(always)]
+    fn read_one(alloc: Global, input: &mut &[u8]) -> Option<i8>
+        ensures { IfSome result (λ t. ReadsValue ⟦<i8 as Shaped>⟧.data.makes
+            ⟦<IntDecoder<'a, i8> as HoldsData>⟧.shape input.old.now t input.new.now) }
+    {
+        one_by_decoder::<i8, IntDecoder<'_, i8>>(alloc, input)
+    }
+
+    fn reads_lists() -> bool {
+        true
+    }
+
+    fn read_list(alloc: Global, input: &mut &[u8], count: usize) -> Option<Vec<i8>>
+        ensures { IfSome result (λ items. ReadsValues ⟦<i8 as Shaped>⟧.data.makes
+            ⟦<IntDecoder<'a, i8> as HoldsData>⟧.shape count input.old.now items.items
+            input.new.now) }
+    {
+        list_by_decoder::<i8, IntDecoder<'_, i8>>(alloc, input, count)
     }
 
     ghost same_shape = { refl };
@@ -274,6 +301,30 @@ impl<'a> Decoder<i16> for I16Decoder<'a> {
         self.column.decode_many(alloc, count)
     }
 
+    fn reads_one() -> bool {
+        true
+    }
+
+    #[inline(always)]
+    fn read_one(alloc: Global, input: &mut &[u8]) -> Option<i16>
+        ensures { IfSome result (λ t. ReadsValue ⟦<i16 as Shaped>⟧.data.makes
+            ⟦<IntDecoder<'a, i16> as HoldsData>⟧.shape input.old.now t input.new.now) }
+    {
+        one_by_decoder::<i16, IntDecoder<'_, i16>>(alloc, input)
+    }
+
+    fn reads_lists() -> bool {
+        true
+    }
+
+    fn read_list(alloc: Global, input: &mut &[u8], count: usize) -> Option<Vec<i16>>
+        ensures { IfSome result (λ items. ReadsValues ⟦<i16 as Shaped>⟧.data.makes
+            ⟦<IntDecoder<'a, i16> as HoldsData>⟧.shape count input.old.now items.items
+            input.new.now) }
+    {
+        list_by_decoder::<i16, IntDecoder<'_, i16>>(alloc, input, count)
+    }
+
     ghost same_shape = { refl };
 }
 
@@ -406,6 +457,30 @@ impl<'a> Decoder<i32> for I32Decoder<'a> {
 
     fn decode_many(&mut self, alloc: Global, count: usize) -> Result<Vec<i32>, Error> {
         self.column.decode_many(alloc, count)
+    }
+
+    fn reads_one() -> bool {
+        true
+    }
+
+    #[inline(always)]
+    fn read_one(alloc: Global, input: &mut &[u8]) -> Option<i32>
+        ensures { IfSome result (λ t. ReadsValue ⟦<i32 as Shaped>⟧.data.makes
+            ⟦<IntDecoder<'a, i32> as HoldsData>⟧.shape input.old.now t input.new.now) }
+    {
+        one_by_decoder::<i32, IntDecoder<'_, i32>>(alloc, input)
+    }
+
+    fn reads_lists() -> bool {
+        true
+    }
+
+    fn read_list(alloc: Global, input: &mut &[u8], count: usize) -> Option<Vec<i32>>
+        ensures { IfSome result (λ items. ReadsValues ⟦<i32 as Shaped>⟧.data.makes
+            ⟦<IntDecoder<'a, i32> as HoldsData>⟧.shape count input.old.now items.items
+            input.new.now) }
+    {
+        list_by_decoder::<i32, IntDecoder<'_, i32>>(alloc, input, count)
     }
 
     ghost same_shape = { refl };
@@ -542,6 +617,30 @@ impl<'a> Decoder<i64> for I64Decoder<'a> {
         self.column.decode_many(alloc, count)
     }
 
+    fn reads_one() -> bool {
+        true
+    }
+
+    #[inline(always)]
+    fn read_one(alloc: Global, input: &mut &[u8]) -> Option<i64>
+        ensures { IfSome result (λ t. ReadsValue ⟦<i64 as Shaped>⟧.data.makes
+            ⟦<IntDecoder<'a, i64> as HoldsData>⟧.shape input.old.now t input.new.now) }
+    {
+        one_by_decoder::<i64, IntDecoder<'_, i64>>(alloc, input)
+    }
+
+    fn reads_lists() -> bool {
+        true
+    }
+
+    fn read_list(alloc: Global, input: &mut &[u8], count: usize) -> Option<Vec<i64>>
+        ensures { IfSome result (λ items. ReadsValues ⟦<i64 as Shaped>⟧.data.makes
+            ⟦<IntDecoder<'a, i64> as HoldsData>⟧.shape count input.old.now items.items
+            input.new.now) }
+    {
+        list_by_decoder::<i64, IntDecoder<'_, i64>>(alloc, input, count)
+    }
+
     ghost same_shape = { refl };
 }
 
@@ -676,6 +775,30 @@ impl<'a> Decoder<i128> for I128Decoder<'a> {
         self.column.decode_many(alloc, count)
     }
 
+    fn reads_one() -> bool {
+        true
+    }
+
+    #[inline(always)]
+    fn read_one(alloc: Global, input: &mut &[u8]) -> Option<i128>
+        ensures { IfSome result (λ t. ReadsValue ⟦<i128 as Shaped>⟧.data.makes
+            ⟦<IntDecoder<'a, i128> as HoldsData>⟧.shape input.old.now t input.new.now) }
+    {
+        one_by_decoder::<i128, IntDecoder<'_, i128>>(alloc, input)
+    }
+
+    fn reads_lists() -> bool {
+        true
+    }
+
+    fn read_list(alloc: Global, input: &mut &[u8], count: usize) -> Option<Vec<i128>>
+        ensures { IfSome result (λ items. ReadsValues ⟦<i128 as Shaped>⟧.data.makes
+            ⟦<IntDecoder<'a, i128> as HoldsData>⟧.shape count input.old.now items.items
+            input.new.now) }
+    {
+        list_by_decoder::<i128, IntDecoder<'_, i128>>(alloc, input, count)
+    }
+
     ghost same_shape = { refl };
 }
 
@@ -808,6 +931,30 @@ impl<'a> Decoder<isize> for IsizeDecoder<'a> {
 
     fn decode_many(&mut self, alloc: Global, count: usize) -> Result<Vec<isize>, Error> {
         self.column.decode_many(alloc, count)
+    }
+
+    fn reads_one() -> bool {
+        true
+    }
+
+    #[inline(always)]
+    fn read_one(alloc: Global, input: &mut &[u8]) -> Option<isize>
+        ensures { IfSome result (λ t. ReadsValue ⟦<isize as Shaped>⟧.data.makes
+            ⟦<IntDecoder<'a, isize> as HoldsData>⟧.shape input.old.now t input.new.now) }
+    {
+        one_by_decoder::<isize, IntDecoder<'_, isize>>(alloc, input)
+    }
+
+    fn reads_lists() -> bool {
+        true
+    }
+
+    fn read_list(alloc: Global, input: &mut &[u8], count: usize) -> Option<Vec<isize>>
+        ensures { IfSome result (λ items. ReadsValues ⟦<isize as Shaped>⟧.data.makes
+            ⟦<IntDecoder<'a, isize> as HoldsData>⟧.shape count input.old.now items.items
+            input.new.now) }
+    {
+        list_by_decoder::<isize, IntDecoder<'_, isize>>(alloc, input, count)
     }
 
     ghost same_shape = { refl };

@@ -1,12 +1,15 @@
 // Written by scripts/tables/integers.
 //! The coders of unsigned integers, each a struct without parameters.
-ghost use Rattle.std.specs.Prelude.{refl};
+ghost use Rattle.std.specs.Prelude.{refl, IfSome};
+ghost use Rattle.bitcode_coder.specs.Coder.{ReadsValue, ReadsValues};
 
 use crate::int::{IntDecoder, IntEncoder};
 use bitcode_coder::coder::{Buffer, Decoder, Encoder, HoldsColumns, HoldsData, View};
 use bitcode_coder::column_free::ColumnFree;
+use bitcode_coder::direct::{list_by_decoder, one_by_decoder};
 use bitcode_coder::part::Part;
 use bitcode_memory::error::Error;
+use bitcode_shapes::shaped::Shaped;
 use std::alloc::Global;
 
 /// The column that values of `u8` are written to, as to `IntEncoder<u8>`.
@@ -138,6 +141,30 @@ impl<'a> Decoder<u8> for U8Decoder<'a> {
 
     fn decode_many(&mut self, alloc: Global, count: usize) -> Result<Vec<u8>, Error> {
         self.column.decode_many(alloc, count)
+    }
+
+    fn reads_one() -> bool {
+        true
+    }
+
+    #[inline(always)]
+    fn read_one(alloc: Global, input: &mut &[u8]) -> Option<u8>
+        ensures { IfSome result (λ t. ReadsValue ⟦<u8 as Shaped>⟧.data.makes
+            ⟦<IntDecoder<'a, u8> as HoldsData>⟧.shape input.old.now t input.new.now) }
+    {
+        one_by_decoder::<u8, IntDecoder<'_, u8>>(alloc, input)
+    }
+
+    fn reads_lists() -> bool {
+        true
+    }
+
+    fn read_list(alloc: Global, input: &mut &[u8], count: usize) -> Option<Vec<u8>>
+        ensures { IfSome result (λ items. ReadsValues ⟦<u8 as Shaped>⟧.data.makes
+            ⟦<IntDecoder<'a, u8> as HoldsData>⟧.shape count input.old.now items.items
+            input.new.now) }
+    {
+        list_by_decoder::<u8, IntDecoder<'_, u8>>(alloc, input, count)
     }
 
     ghost same_shape = { refl };
@@ -274,6 +301,30 @@ impl<'a> Decoder<u16> for U16Decoder<'a> {
         self.column.decode_many(alloc, count)
     }
 
+    fn reads_one() -> bool {
+        true
+    }
+
+    #[inline(always)]
+    fn read_one(alloc: Global, input: &mut &[u8]) -> Option<u16>
+        ensures { IfSome result (λ t. ReadsValue ⟦<u16 as Shaped>⟧.data.makes
+            ⟦<IntDecoder<'a, u16> as HoldsData>⟧.shape input.old.now t input.new.now) }
+    {
+        one_by_decoder::<u16, IntDecoder<'_, u16>>(alloc, input)
+    }
+
+    fn reads_lists() -> bool {
+        true
+    }
+
+    fn read_list(alloc: Global, input: &mut &[u8], count: usize) -> Option<Vec<u16>>
+        ensures { IfSome result (λ items. ReadsValues ⟦<u16 as Shaped>⟧.data.makes
+            ⟦<IntDecoder<'a, u16> as HoldsData>⟧.shape count input.old.now items.items
+            input.new.now) }
+    {
+        list_by_decoder::<u16, IntDecoder<'_, u16>>(alloc, input, count)
+    }
+
     ghost same_shape = { refl };
 }
 
@@ -406,6 +457,30 @@ impl<'a> Decoder<u32> for U32Decoder<'a> {
 
     fn decode_many(&mut self, alloc: Global, count: usize) -> Result<Vec<u32>, Error> {
         self.column.decode_many(alloc, count)
+    }
+
+    fn reads_one() -> bool {
+        true
+    }
+
+    #[inline(always)]
+    fn read_one(alloc: Global, input: &mut &[u8]) -> Option<u32>
+        ensures { IfSome result (λ t. ReadsValue ⟦<u32 as Shaped>⟧.data.makes
+            ⟦<IntDecoder<'a, u32> as HoldsData>⟧.shape input.old.now t input.new.now) }
+    {
+        one_by_decoder::<u32, IntDecoder<'_, u32>>(alloc, input)
+    }
+
+    fn reads_lists() -> bool {
+        true
+    }
+
+    fn read_list(alloc: Global, input: &mut &[u8], count: usize) -> Option<Vec<u32>>
+        ensures { IfSome result (λ items. ReadsValues ⟦<u32 as Shaped>⟧.data.makes
+            ⟦<IntDecoder<'a, u32> as HoldsData>⟧.shape count input.old.now items.items
+            input.new.now) }
+    {
+        list_by_decoder::<u32, IntDecoder<'_, u32>>(alloc, input, count)
     }
 
     ghost same_shape = { refl };
@@ -542,6 +617,30 @@ impl<'a> Decoder<u64> for U64Decoder<'a> {
         self.column.decode_many(alloc, count)
     }
 
+    fn reads_one() -> bool {
+        true
+    }
+
+    #[inline(always)]
+    fn read_one(alloc: Global, input: &mut &[u8]) -> Option<u64>
+        ensures { IfSome result (λ t. ReadsValue ⟦<u64 as Shaped>⟧.data.makes
+            ⟦<IntDecoder<'a, u64> as HoldsData>⟧.shape input.old.now t input.new.now) }
+    {
+        one_by_decoder::<u64, IntDecoder<'_, u64>>(alloc, input)
+    }
+
+    fn reads_lists() -> bool {
+        true
+    }
+
+    fn read_list(alloc: Global, input: &mut &[u8], count: usize) -> Option<Vec<u64>>
+        ensures { IfSome result (λ items. ReadsValues ⟦<u64 as Shaped>⟧.data.makes
+            ⟦<IntDecoder<'a, u64> as HoldsData>⟧.shape count input.old.now items.items
+            input.new.now) }
+    {
+        list_by_decoder::<u64, IntDecoder<'_, u64>>(alloc, input, count)
+    }
+
     ghost same_shape = { refl };
 }
 
@@ -676,6 +775,30 @@ impl<'a> Decoder<u128> for U128Decoder<'a> {
         self.column.decode_many(alloc, count)
     }
 
+    fn reads_one() -> bool {
+        true
+    }
+
+    #[inline(always)]
+    fn read_one(alloc: Global, input: &mut &[u8]) -> Option<u128>
+        ensures { IfSome result (λ t. ReadsValue ⟦<u128 as Shaped>⟧.data.makes
+            ⟦<IntDecoder<'a, u128> as HoldsData>⟧.shape input.old.now t input.new.now) }
+    {
+        one_by_decoder::<u128, IntDecoder<'_, u128>>(alloc, input)
+    }
+
+    fn reads_lists() -> bool {
+        true
+    }
+
+    fn read_list(alloc: Global, input: &mut &[u8], count: usize) -> Option<Vec<u128>>
+        ensures { IfSome result (λ items. ReadsValues ⟦<u128 as Shaped>⟧.data.makes
+            ⟦<IntDecoder<'a, u128> as HoldsData>⟧.shape count input.old.now items.items
+            input.new.now) }
+    {
+        list_by_decoder::<u128, IntDecoder<'_, u128>>(alloc, input, count)
+    }
+
     ghost same_shape = { refl };
 }
 
@@ -808,6 +931,30 @@ impl<'a> Decoder<usize> for UsizeDecoder<'a> {
 
     fn decode_many(&mut self, alloc: Global, count: usize) -> Result<Vec<usize>, Error> {
         self.column.decode_many(alloc, count)
+    }
+
+    fn reads_one() -> bool {
+        true
+    }
+
+    #[inline(always)]
+    fn read_one(alloc: Global, input: &mut &[u8]) -> Option<usize>
+        ensures { IfSome result (λ t. ReadsValue ⟦<usize as Shaped>⟧.data.makes
+            ⟦<IntDecoder<'a, usize> as HoldsData>⟧.shape input.old.now t input.new.now) }
+    {
+        one_by_decoder::<usize, IntDecoder<'_, usize>>(alloc, input)
+    }
+
+    fn reads_lists() -> bool {
+        true
+    }
+
+    fn read_list(alloc: Global, input: &mut &[u8], count: usize) -> Option<Vec<usize>>
+        ensures { IfSome result (λ items. ReadsValues ⟦<usize as Shaped>⟧.data.makes
+            ⟦<IntDecoder<'a, usize> as HoldsData>⟧.shape count input.old.now items.items
+            input.new.now) }
+    {
+        list_by_decoder::<usize, IntDecoder<'_, usize>>(alloc, input, count)
     }
 
     ghost same_shape = { refl };

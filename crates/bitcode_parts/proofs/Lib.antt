@@ -3,6 +3,7 @@ pub mod ChoiceReadingLemmas
 pub mod ChoiceWritingLemmas
 pub mod BareVariantLemmas
 pub mod TwoVariantLemmas
+pub mod DirectLemmas
 pub mod OptionLemmas
 pub mod PointerLemmas
 pub mod ListLimitLemmas

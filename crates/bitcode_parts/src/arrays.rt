@@ -258,5 +258,22 @@ impl<T: Shaped + Drop, D: Decoder<T>, const N: usize> Decoder<[T; N]> for ArrayD
         }
     }
 
+    // All four are written here: the toolchain does not allow the trait's own where a size depends on `N`.
+    fn reads_one() -> bool {
+        false
+    }
+
+    fn read_one(_alloc: Global, _input: &mut &[u8]) -> Option<[T; N]> {
+        None
+    }
+
+    fn reads_lists() -> bool {
+        false
+    }
+
+    fn read_list(_alloc: Global, _input: &mut &[u8], _count: usize) -> Option<Vec<[T; N]>> {
+        None
+    }
+
     ghost same_shape = { same_array_shape N D.same_shape };
 }

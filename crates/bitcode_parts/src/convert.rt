@@ -184,5 +184,15 @@ impl<T: Shaped + Drop, F: ConvertFrom<T>, D: Decoder<T>> Decoder<F> for ConvertF
         F::convert_from(self.alloc, value)
     }
 
+    fn reads_one() -> bool {
+        D::reads_one()
+    }
+
+    #[inline(always)]
+    fn read_one(alloc: Global, input: &mut &[u8]) -> Option<F> {
+        let value = D::read_one(alloc, input)?;
+        F::convert_from(alloc, value).ok()
+    }
+
     ghost same_shape = { D.same_shape ∙ sym F.same_shape };
 }

@@ -1,10 +1,11 @@
 //! The decoder of vectors with a fixed capacity: the decoder of sequences, with a limit on the lengths.
 #![tactic(auto, unfolding(bitcode_coder::specs::Length::lengths_left, bitcode_coder::specs::Length::lengths_sum))]
 
-ghost use Rattle.std.specs.Prelude.{◌+◌, ◌≤◌, Some, All, false, refl};
+ghost use Rattle.std.specs.Prelude.{◌+◌, ◌≤◌, Some, All, IfSome, false, refl};
 ghost use Rattle.std.proofs.Common.{ap};
 ghost use Rattle.std.proofs.Props.{props};
 ghost use Rattle.bitcode_shapes.specs.Shape.{seq_shape};
+ghost use Rattle.bitcode_coder.specs.Coder.{ReadsValue, ReadsValues};
 ghost use Rattle.bitcode_coder.specs.ColumnFree.{has_entry, count_if_free};
 ghost use Rattle.bitcode_coder.specs.Length.{lengths_left, lengths_owned, lengths_sum};
 ghost use Rattle.bitcode_parts.specs.Lists.{lists_of};
@@ -90,6 +91,29 @@ impl<'a, T: Shaped + Default + Drop, D: Decoder<T>, const N: usize> Decoder<Arra
             vec.push(self.elements.decode()?);
         }
         Ok(vec)
+    }
+
+    // All four are written here: the toolchain does not allow the trait's own where a size depends on `N`.
+    fn reads_one() -> bool {
+        false
+    }
+
+    fn read_one(_alloc: Global, _input: &mut &[u8]) -> Option<ArrayVec<T, N>>
+        ensures { IfSome result (λ t. ReadsValue ⟦<ArrayVec<T, N> as Shaped>⟧.data.makes
+            (seq_shape (Some N) D.shape) _input.old.now t _input.new.now) }
+    {
+        None
+    }
+
+    fn reads_lists() -> bool {
+        false
+    }
+
+    fn read_list(_alloc: Global, _input: &mut &[u8], _count: usize) -> Option<Vec<ArrayVec<T, N>>>
+        ensures { IfSome result (λ items. ReadsValues ⟦<ArrayVec<T, N> as Shaped>⟧.data.makes
+            (seq_shape (Some N) D.shape) _count _input.old.now items.items _input.new.now) }
+    {
+        None
     }
 
     ghost same_shape = { ap (seq_shape (Some N)) D.same_shape };

@@ -1,18 +1,11 @@
--- The shapes of a group of types, level by level. Written by `scripts/second_format`.
-use Rattle.std.proofs.Common.{◌≡◌, ℕ, zero, suc, ◌-◌, ◌<◌, Option, Some, None, Box, Global, refl, ap, ◌∙◌, arith, sub-one}
-use Rattle.bitcode_shapes.specs.Datum.{Datum, tuple, datum_and, no_data}
-use Rattle.bitcode_coder.specs.Spelling.{natural}
-use Rattle.bitcode_serde_types.specs.Options.{option_datum}
-use Rattle.bitcode_untyped.specs.ShapeTree.{tuple_tree}
-use Rattle.bitcode_recursive_types.specs.SearchTreeShape.{search_tree_tree, search_tree_trees, search_tree_step, search_tree_datum}
+-- The content of a struct with options, by these. Written by `scripts/second_format`.
+use Rattle.std.proofs.Common.{◌≡◌, Option, Some, None, Box, Global, ap, ◌∙◌}
+use Rattle.bitcode_serde_types.specs.Written.{Datum, tuple, no_data, datum_and, natural, option_datum}
+use Rattle.bitcode_recursive_types.specs.SearchTreeShape.{search_tree_step, search_tree_datum}
 use Rattle.bitcode_recursive_types.specs.declared.search_tree.SearchTree.TheFolds.{fold-roll-SearchTree, fold_out-SearchTree, map-SearchTree}
 use Rattle.bitcode_recursive_types.specs.declared.search_tree.SearchTree.TheViews.{roll-SearchTree}
 use Rattle.bitcode_recursive_types.specs.declared.search_tree.SearchTree.{SearchTree, out-SearchTree}
 use Rattle.bitcode_recursive_types.specs.declared.search_tree.SearchTree.TheOpen.{SearchTree-F}
-
-pub search_tree_more : (n : ℕ) → 0 < n → search_tree_tree n ≡ tuple_tree (search_tree_trees (n - 1))
-search_tree_more zero h = absurd (omega (arith, h))
-search_tree_more (suc n) h = rw sub-one refl
 
 pub search_tree_content : (t : SearchTree) (o0 : Option (Box SearchTree Global)) (o1 : Option (Box SearchTree Global)) → (out-SearchTree t).left ≡ o0 → (out-SearchTree t).right ≡ o1
     → search_tree_datum t ≡ tuple (datum_and (option_datum (λ b. search_tree_datum b.value) o0) (datum_and (natural (out-SearchTree t).key) (datum_and (option_datum (λ b. search_tree_datum b.value) o1) no_data)))

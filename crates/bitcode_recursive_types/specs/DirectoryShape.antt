@@ -1,10 +1,6 @@
 -- The shapes of `Directory`, `Entry`, and the content of their values. Written by `scripts/second_format`.
 use Rattle.std.specs.Prelude.{ℕ, zero, suc, map, string_bytes}
-use Rattle.bitcode_shapes.specs.Datum.{Datum, unit, text, list, tuple, choice, no_data, datum_and, data_of}
-use Rattle.bitcode_shapes.specs.LawfulInts.{width_8}
-use Rattle.bitcode_coder.specs.Spelling.{natural}
-use Rattle.bitcode_untyped.specs.ShapeTree.{ShapeTree, ShapeTrees, unit_tree, never_tree, natural_tree, text_tree, seq_tree, tuple_tree, choice_tree, no_trees, tree_and, IsSound}
-use Rattle.bitcode_serde_types.specs.Restates.{HasNoMap}
+use Rattle.bitcode_serde_types.specs.Written.{Datum, unit, text, list, tuple, choice, no_data, datum_and, data_of, width_8, natural, ShapeTree, ShapeTrees, unit_tree, never_tree, natural_tree, text_tree, seq_tree, tuple_tree, choice_tree, no_trees, tree_and, IsSound, HasNoMap}
 use Rattle.bitcode_recursive_types.specs.declared.directory.Directory.{Directory, fold-Directory}
 use Rattle.bitcode_recursive_types.specs.declared.directory.Entry.{Entry, fold-Entry}
 use Rattle.bitcode_recursive_types.specs.declared.directory.Entry.TheOpen.{Entry-F, Directory-F}

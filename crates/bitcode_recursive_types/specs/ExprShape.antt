@@ -1,9 +1,6 @@
 -- The shapes of `Expr`, and the content of their values. Written by `scripts/second_format`.
 use Rattle.std.specs.Prelude.{ℕ, zero, suc, string_bytes}
-use Rattle.bitcode_shapes.specs.Datum.{Datum, number, text, list, tuple, choice, no_data, datum_and, data_of}
-use Rattle.bitcode_shapes.specs.LawfulInts.{width_8}
-use Rattle.bitcode_untyped.specs.ShapeTree.{ShapeTree, ShapeTrees, never_tree, integer_tree, text_tree, seq_tree, map_tree, tuple_tree, choice_tree, no_trees, tree_and, IsSound}
-use Rattle.bitcode_serde_types.specs.Pairs.{map_datum}
+use Rattle.bitcode_serde_types.specs.Written.{Datum, number, text, list, tuple, choice, no_data, datum_and, data_of, width_8, ShapeTree, ShapeTrees, never_tree, integer_tree, text_tree, seq_tree, map_tree, tuple_tree, choice_tree, no_trees, tree_and, IsSound, map_datum}
 use Rattle.bitcode_recursive_types.specs.declared.expr.Expr.{Expr, fold-Expr}
 use Rattle.bitcode_recursive_types.specs.declared.expr.Expr.TheOpen.{Expr-F}
 

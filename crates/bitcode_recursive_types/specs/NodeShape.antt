@@ -1,10 +1,6 @@
 -- The shapes of `Node`, and the content of their values. Written by `scripts/second_format`.
 use Rattle.std.specs.Prelude.{ℕ, zero, suc, map, string_bytes}
-use Rattle.bitcode_shapes.specs.Datum.{Datum, number, text, list, tuple, no_data, datum_and, data_of}
-use Rattle.bitcode_shapes.specs.LawfulInts.{width_1, width_4}
-use Rattle.bitcode_coder.specs.Spelling.{natural, truth}
-use Rattle.bitcode_untyped.specs.ShapeTree.{ShapeTree, ShapeTrees, never_tree, bool_tree, natural_tree, integer_tree, text_tree, seq_tree, tuple_tree, no_trees, tree_and, IsSound}
-use Rattle.bitcode_serde_types.specs.Restates.{HasNoMap}
+use Rattle.bitcode_serde_types.specs.Written.{Datum, number, text, list, tuple, no_data, datum_and, data_of, width_1, width_4, natural, truth, ShapeTree, ShapeTrees, never_tree, bool_tree, natural_tree, integer_tree, text_tree, seq_tree, tuple_tree, no_trees, tree_and, IsSound, HasNoMap}
 use Rattle.bitcode_recursive_types.specs.declared.node.Node.{Node, fold-Node}
 use Rattle.bitcode_recursive_types.specs.declared.node.Node.TheOpen.{Node-F}
 

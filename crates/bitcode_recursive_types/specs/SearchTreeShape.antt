@@ -1,11 +1,6 @@
 -- The shapes of `SearchTree`, and the content of their values. Written by `scripts/second_format`.
 use Rattle.std.specs.Prelude.{ℕ, zero, suc, map}
-use Rattle.bitcode_shapes.specs.Datum.{Datum, tuple, no_data, datum_and}
-use Rattle.bitcode_shapes.specs.LawfulInts.{width_4}
-use Rattle.bitcode_coder.specs.Spelling.{natural}
-use Rattle.bitcode_untyped.specs.ShapeTree.{ShapeTree, ShapeTrees, never_tree, natural_tree, option_tree, tuple_tree, no_trees, tree_and, IsSound}
-use Rattle.bitcode_serde_types.specs.Options.{option_datum}
-use Rattle.bitcode_serde_types.specs.Restates.{HasNoMap}
+use Rattle.bitcode_serde_types.specs.Written.{Datum, tuple, no_data, datum_and, width_4, natural, ShapeTree, ShapeTrees, never_tree, natural_tree, option_tree, tuple_tree, no_trees, tree_and, IsSound, option_datum, HasNoMap}
 use Rattle.bitcode_recursive_types.specs.declared.search_tree.SearchTree.{SearchTree, fold-SearchTree}
 use Rattle.bitcode_recursive_types.specs.declared.search_tree.SearchTree.TheOpen.{SearchTree-F}
 

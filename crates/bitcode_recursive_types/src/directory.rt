@@ -1,22 +1,13 @@
 //! `Directory`, `Entry` in the second format. What is below the declarations was written by `scripts/second_format`.
-ghost use Rattle.std.specs.Prelude.{◌≤◌, length, map, IfOk, IfErr, OnOk};
-ghost use Rattle.bitcode_shapes.specs.Datum.{list, data_of};
-ghost use Rattle.bitcode_untyped.specs.ShapeTree.{seq_tree};
-ghost use Rattle.bitcode_serde.specs.ReadingValues.{IsSteady, Continues, IsRefusalAt};
-ghost use Rattle.bitcode_serde_types.specs.ReadingAs.{ReadsAs};
+ghost use Rattle.std.specs.Prelude.{◌≤◌, length, IfOk, IfErr, OnOk};
+ghost use Rattle.bitcode_serde_types.specs.Written.{IsSteady, Continues, IsRefusalAt, ReadsAs};
 ghost use Rattle.bitcode_recursive_types.specs.DirectoryShape.{directory_tree, directory_datum, entry_tree};
 ghost use Rattle.bitcode_recursive_types.specs.DirectoryShape.{entry_datum};
 
-use bitcode_memory::error::{Error, Reason};
-use bitcode_memory::refuse::err;
-use bitcode_serde::budget::Budget;
-use bitcode_serde::reader::Reader;
-use bitcode_serde::writer::Writer;
-use bitcode_serde_types::deserialize_as::DeserializeAs;
-use bitcode_serde_types::entering::{enter_list, enter_variant, read_at, read_field};
-use bitcode_serde_types::fields::write_tuple;
-use bitcode_serde_types::serialize_as::SerializeAs;
-use bitcode_serde_types::variants::write_variant;
+use bitcode_serde_types::written::{
+    Budget, DeserializeAs, Error, Reader, Reason, SerializeAs, Writer, enter_list, enter_variant,
+    find_field, follow, read_at, read_field, write_tuple, write_variant,
+};
 use std::alloc::Global;
 
 /// A folder.
@@ -47,16 +38,8 @@ impl SerializeAs for Directory {
 
     #[cycle(directory_write)]
     fn write(&self, writer: &mut Writer, left: usize, place: usize) -> Result<(), Error> {
-        if left == 0 {
-            return err(Reason::NestedTooDeep);
-        }
-        write_tuple(
-            &(&self.name, (&self.entries, ())),
-            2,
-            writer,
-            left - 1,
-            place,
-        )
+        let below = follow(left)?;
+        write_tuple(&(&self.name, (&self.entries, ())), 2, writer, below, place)
     }
 }
 
@@ -87,13 +70,11 @@ impl SerializeAs for Entry {
 
     #[cycle(directory_write)]
     fn write(&self, writer: &mut Writer, left: usize, place: usize) -> Result<(), Error> {
-        if left == 0 {
-            return err(Reason::NestedTooDeep);
-        }
+        let below = follow(left)?;
         match self {
-            Entry::File(x0) => { write_variant(x0, 0, writer, left - 1, place) }
-            Entry::Folder(x0) => { write_variant(x0, 1, writer, left - 1, place) }
-            Entry::Nothing => { write_variant(&(), 2, writer, left - 1, place) }
+            Entry::File(x0) => { write_variant(x0, 0, writer, below, place) }
+            Entry::Folder(x0) => { write_variant(x0, 1, writer, below, place) }
+            Entry::Nothing => { write_variant(&(), 2, writer, below, place) }
         }
     }
 }
@@ -132,17 +113,17 @@ fn read_directory(
     ensures refused { IfErr result
         (λ e. IsRefusalAt (directory_tree left) place reader.old e.reason) }
 {
-    if left == 0 {
-        return err(Reason::NestedTooDeep);
-    }
+    let below = follow(left)?;
     budget.take(1);
-    let field0: String = read_field(alloc, reader, budget, left - 1, place, 0, 2)?;
-    let place1 = reader.field(place, 1, 2, 1)?;
-    let field1 = read_entry_list(alloc, reader, budget, left - 1, place1)?;
-    Ok(Directory {
-        name: field0,
-        entries: field1,
-    })
+    let name: String = read_field(alloc, reader, budget, below, place, 0, 2)?;
+    let place1 = find_field(reader, place, 1, 2)?;
+    let found1 = enter_list(reader, budget, false, place1)?;
+    let mut entries = Vec::new(alloc);
+    for _i in 0..found1.count {
+        let item = read_entry(alloc, reader, budget, below, found1.place)?;
+        budget.keep(&mut entries, item)?;
+    }
+    Ok(Directory { name, entries })
 }
 
 // Reads a value of `Entry`.
@@ -162,17 +143,15 @@ fn read_entry(
         budget.new) }
     ensures refused { IfErr result (λ e. IsRefusalAt (entry_tree left) place reader.old e.reason) }
 {
-    if left == 0 {
-        return err(Reason::NestedTooDeep);
-    }
+    let below = follow(left)?;
     let found = enter_variant(reader, budget, 3, Reason::InvalidEnumVariant, place)?;
     match found.index {
         0 => {
-            let held: u64 = read_at(alloc, reader, budget, left - 1, found.place)?;
+            let held: u64 = read_at(alloc, reader, budget, below, found.place)?;
             Ok(Entry::File(held))
         }
         1 => {
-            let held = read_directory(alloc, reader, budget, left - 1, found.place)?;
+            let held = read_directory(alloc, reader, budget, below, found.place)?;
             Ok(Entry::Folder(held))
         }
         _ => {
@@ -180,31 +159,4 @@ fn read_entry(
             Ok(Entry::Nothing)
         }
     }
-}
-
-// Reads a list of `Entry`.
-#[cycle(directory)]
-fn read_entry_list(
-    alloc: Global,
-    reader: &mut Reader<'_>,
-    budget: &mut Budget,
-    left: usize,
-    place: usize,
-) -> Result<Vec<Entry>, Error>
-    requires place { place ≤ length reader.old.places.below.items }
-    requires steady { IsSteady reader.old }
-    ensures continues { OnOk result (Continues reader.old reader.new) }
-    ensures read { IfOk result
-        (λ t. ReadsAs (λ v. list (data_of (map entry_datum v.items))) (seq_tree (entry_tree left))
-        place reader.old budget.old t reader.new budget.new) }
-    ensures refused { IfErr result
-        (λ e. IsRefusalAt (seq_tree (entry_tree left)) place reader.old e.reason) }
-{
-    let found = enter_list(reader, budget, false, place)?;
-    let mut items = Vec::new(alloc);
-    for _i in 0..found.count {
-        let item = read_entry(alloc, reader, budget, left, found.place)?;
-        budget.keep(&mut items, item)?;
-    }
-    Ok(items)
 }

@@ -1,23 +1,15 @@
 //! `Expr` in the second format. What is below the declarations was written by `scripts/second_format`.
 ghost use Rattle.std.specs.Prelude.{◌≤◌, length, map, string_bytes, IfOk, IfErr, OnOk};
-ghost use Rattle.bitcode_shapes.specs.Datum.{text, list, tuple, no_data, datum_and, data_of};
-ghost use Rattle.bitcode_untyped.specs.ShapeTree.{text_tree, seq_tree, map_tree, tuple_tree};
-ghost use Rattle.bitcode_serde.specs.ReadingValues.{IsSteady, Continues, IsRefusalAt};
-ghost use Rattle.bitcode_serde_types.specs.Pairs.{map_datum};
-ghost use Rattle.bitcode_serde_types.specs.ReadingAs.{ReadsAs};
+ghost use Rattle.bitcode_serde_types.specs.Written.{text, list, tuple, no_data, datum_and, data_of, text_tree};
+ghost use Rattle.bitcode_serde_types.specs.Written.{map_tree, tuple_tree, IsSteady, Continues, IsRefusalAt, map_datum};
+ghost use Rattle.bitcode_serde_types.specs.Written.{ReadsAs};
 ghost use Rattle.bitcode_recursive_types.specs.ExprShape.{expr_tree, expr_datum, expr_add_trees, expr_call_trees};
 ghost use Rattle.bitcode_recursive_types.specs.ExprShape.{expr_bind_trees};
 
-use bitcode_memory::error::{Error, Reason};
-use bitcode_memory::refuse::err;
-use bitcode_serde::budget::Budget;
-use bitcode_serde::reader::Reader;
-use bitcode_serde::writer::Writer;
-use bitcode_serde_types::deserialize_as::DeserializeAs;
-use bitcode_serde_types::entering::{enter_list, enter_map, enter_variant, read_at, read_field};
-use bitcode_serde_types::maps::ordered_map;
-use bitcode_serde_types::serialize_as::SerializeAs;
-use bitcode_serde_types::variants::write_variant;
+use bitcode_serde_types::written::{
+    Budget, DeserializeAs, Error, Reader, Reason, SerializeAs, Writer, enter_list, enter_map,
+    enter_variant, find_field, follow, ordered_map, read_at, read_field, write_variant,
+};
 use std::alloc::Global;
 use std::collections::BTreeMap;
 
@@ -41,15 +33,13 @@ impl SerializeAs for Expr {
     ghost sound = { expr_sound };
 
     fn write(&self, writer: &mut Writer, left: usize, place: usize) -> Result<(), Error> {
-        if left == 0 {
-            return err(Reason::NestedTooDeep);
-        }
+        let below = follow(left)?;
         match self {
-            Expr::Num(x0) => { write_variant(x0, 0, writer, left - 1, place) }
-            Expr::Neg(x0) => { write_variant(x0, 1, writer, left - 1, place) }
-            Expr::Add(x0, x1) => { write_variant(&(x0, x1), 2, writer, left - 1, place) }
-            Expr::Call(x0, x1) => { write_variant(&(x0, x1), 3, writer, left - 1, place) }
-            Expr::Bind(x0, x1) => { write_variant(&(x0, x1), 4, writer, left - 1, place) }
+            Expr::Num(x0) => { write_variant(x0, 0, writer, below, place) }
+            Expr::Neg(x0) => { write_variant(x0, 1, writer, below, place) }
+            Expr::Add(x0, x1) => { write_variant(&(x0, x1), 2, writer, below, place) }
+            Expr::Call(x0, x1) => { write_variant(&(x0, x1), 3, writer, below, place) }
+            Expr::Bind(x0, x1) => { write_variant(&(x0, x1), 4, writer, below, place) }
         }
     }
 }
@@ -87,30 +77,28 @@ fn read_expr(
         budget.new) }
     ensures refused { IfErr result (λ e. IsRefusalAt (expr_tree left) place reader.old e.reason) }
 {
-    if left == 0 {
-        return err(Reason::NestedTooDeep);
-    }
+    let below = follow(left)?;
     let found = enter_variant(reader, budget, 5, Reason::InvalidEnumVariant, place)?;
     match found.index {
         0 => {
-            let held: i64 = read_at(alloc, reader, budget, left - 1, found.place)?;
+            let held: i64 = read_at(alloc, reader, budget, below, found.place)?;
             Ok(Expr::Num(held))
         }
         1 => {
-            let value = read_expr(alloc, reader, budget, left - 1, found.place)?;
+            let value = read_expr(alloc, reader, budget, below, found.place)?;
             let held = Box::new(alloc, value)?;
             Ok(Expr::Neg(held))
         }
         2 => {
-            let held = read_expr_add(alloc, reader, budget, left - 1, found.place)?;
+            let held = read_expr_add(alloc, reader, budget, below, found.place)?;
             Ok(Expr::Add(held.0, held.1))
         }
         3 => {
-            let held = read_expr_call(alloc, reader, budget, left - 1, found.place)?;
+            let held = read_expr_call(alloc, reader, budget, below, found.place)?;
             Ok(Expr::Call(held.0, held.1))
         }
         _ => {
-            let held = read_expr_bind(alloc, reader, budget, left - 1, found.place)?;
+            let held = read_expr_bind(alloc, reader, budget, below, found.place)?;
             Ok(Expr::Bind(held.0, held.1))
         }
     }
@@ -136,10 +124,10 @@ fn read_expr_add(
         (λ e. IsRefusalAt (tuple_tree (expr_add_trees left)) place reader.old e.reason) }
 {
     budget.take(1);
-    let place0 = reader.field(place, 0, 2, 0)?;
+    let place0 = find_field(reader, place, 0, 2)?;
     let value0 = read_expr(alloc, reader, budget, left, place0)?;
     let field0 = Box::new(alloc, value0)?;
-    let place1 = reader.field(place, 1, 2, 1)?;
+    let place1 = find_field(reader, place, 1, 2)?;
     let value1 = read_expr(alloc, reader, budget, left, place1)?;
     let field1 = Box::new(alloc, value1)?;
     Ok((field0, field1))
@@ -167,8 +155,13 @@ fn read_expr_call(
 {
     budget.take(1);
     let field0: String = read_field(alloc, reader, budget, left, place, 0, 2)?;
-    let place1 = reader.field(place, 1, 2, 1)?;
-    let field1 = read_expr_list(alloc, reader, budget, left, place1)?;
+    let place1 = find_field(reader, place, 1, 2)?;
+    let found1 = enter_list(reader, budget, false, place1)?;
+    let mut field1 = Vec::new(alloc);
+    for _i in 0..found1.count {
+        let item = read_expr(alloc, reader, budget, left, found1.place)?;
+        budget.keep(&mut field1, item)?;
+    }
     Ok((field0, field1))
 }
 
@@ -193,39 +186,12 @@ fn read_expr_bind(
         (λ e. IsRefusalAt (tuple_tree (expr_bind_trees left)) place reader.old e.reason) }
 {
     budget.take(1);
-    let place0 = reader.field(place, 0, 2, 0)?;
+    let place0 = find_field(reader, place, 0, 2)?;
     let field0 = read_expr_by_string(alloc, reader, budget, left, place0)?;
-    let place1 = reader.field(place, 1, 2, 1)?;
+    let place1 = find_field(reader, place, 1, 2)?;
     let value1 = read_expr(alloc, reader, budget, left, place1)?;
     let field1 = Box::new(alloc, value1)?;
     Ok((field0, field1))
-}
-
-// Reads a list of `Expr`.
-#[cycle(expr)]
-fn read_expr_list(
-    alloc: Global,
-    reader: &mut Reader<'_>,
-    budget: &mut Budget,
-    left: usize,
-    place: usize,
-) -> Result<Vec<Expr>, Error>
-    requires place { place ≤ length reader.old.places.below.items }
-    requires steady { IsSteady reader.old }
-    ensures continues { OnOk result (Continues reader.old reader.new) }
-    ensures read { IfOk result
-        (λ t. ReadsAs (λ v. list (data_of (map expr_datum v.items))) (seq_tree (expr_tree left))
-        place reader.old budget.old t reader.new budget.new) }
-    ensures refused { IfErr result
-        (λ e. IsRefusalAt (seq_tree (expr_tree left)) place reader.old e.reason) }
-{
-    let found = enter_list(reader, budget, false, place)?;
-    let mut items = Vec::new(alloc);
-    for _i in 0..found.count {
-        let item = read_expr(alloc, reader, budget, left, found.place)?;
-        budget.keep(&mut items, item)?;
-    }
-    Ok(items)
 }
 
 // Reads a map to `Expr`.

@@ -1,20 +1,13 @@
 //! `SearchTree` in the second format. What is below the declarations was written by `scripts/second_format`.
 ghost use Rattle.std.specs.Prelude.{◌≤◌, length, IfOk, IfErr, OnOk};
-ghost use Rattle.bitcode_untyped.specs.ShapeTree.{option_tree};
-ghost use Rattle.bitcode_serde.specs.ReadingValues.{IsSteady, Continues, IsRefusalAt};
-ghost use Rattle.bitcode_serde_types.specs.Options.{option_datum};
-ghost use Rattle.bitcode_serde_types.specs.ReadingAs.{ReadsAs};
+ghost use Rattle.bitcode_serde_types.specs.Written.{option_tree, IsSteady, Continues, IsRefusalAt, option_datum};
+ghost use Rattle.bitcode_serde_types.specs.Written.{ReadsAs};
 ghost use Rattle.bitcode_recursive_types.specs.SearchTreeShape.{search_tree_tree, search_tree_datum};
 
-use bitcode_memory::error::{Error, Reason};
-use bitcode_memory::refuse::err;
-use bitcode_serde::budget::Budget;
-use bitcode_serde::reader::Reader;
-use bitcode_serde::writer::Writer;
-use bitcode_serde_types::deserialize_as::DeserializeAs;
-use bitcode_serde_types::entering::{enter_variant, read_field};
-use bitcode_serde_types::fields::write_tuple;
-use bitcode_serde_types::serialize_as::SerializeAs;
+use bitcode_serde_types::written::{
+    Budget, DeserializeAs, Error, Reader, Reason, SerializeAs, Writer, enter_variant, find_field,
+    follow, read_field, write_tuple,
+};
 use std::alloc::Global;
 
 /// A sorted tree.
@@ -36,14 +29,12 @@ impl SerializeAs for SearchTree {
     ghost sound = { search_tree_sound };
 
     fn write(&self, writer: &mut Writer, left: usize, place: usize) -> Result<(), Error> {
-        if left == 0 {
-            return err(Reason::NestedTooDeep);
-        }
+        let below = follow(left)?;
         write_tuple(
             &(&self.left, (&self.key, (&self.right, ()))),
             3,
             writer,
-            left - 1,
+            below,
             place,
         )
     }
@@ -83,19 +74,17 @@ fn read_search_tree(
     ensures refused { IfErr result
         (λ e. IsRefusalAt (search_tree_tree left) place reader.old e.reason) }
 {
-    if left == 0 {
-        return err(Reason::NestedTooDeep);
-    }
+    let below = follow(left)?;
     budget.take(1);
-    let place0 = reader.field(place, 0, 3, 0)?;
-    let field0 = read_search_tree_option(alloc, reader, budget, left - 1, place0)?;
-    let field1: u32 = read_field(alloc, reader, budget, left - 1, place, 1, 3)?;
-    let place2 = reader.field(place, 2, 3, 2)?;
-    let field2 = read_search_tree_option(alloc, reader, budget, left - 1, place2)?;
+    let place0 = find_field(reader, place, 0, 3)?;
+    let field0 = read_search_tree_option(alloc, reader, budget, below, place0)?;
+    let field1: u32 = read_field(alloc, reader, budget, below, place, 1, 3)?;
+    let place2 = find_field(reader, place, 2, 3)?;
+    let right = read_search_tree_option(alloc, reader, budget, below, place2)?;
     Ok(SearchTree {
         left: field0,
         key: field1,
-        right: field2,
+        right,
     })
 }
 

@@ -1,7 +1,11 @@
 pub mod LeafData
 pub mod LeafWritten
 pub mod ListLemmas
+pub mod LentLemmas
 pub mod FieldLemmas
+pub mod JoinedLemmas
+pub mod PartsRead
+pub mod AlikeLemmas
 pub mod KeptLemmas
 pub mod FieldsRead
 pub mod RestOfFields
@@ -11,3 +15,4 @@ pub mod EntryLemmas
 pub mod PairLemmas
 pub mod MapWritten
 pub mod SetLemmas
+pub mod StepsRead

@@ -1,9 +1,15 @@
+pub mod Arrays
 pub mod DeepFaults
 pub mod FieldsWritten
+pub mod Joined
 pub mod Keys
+pub mod LawfulJoined
 pub mod LawfulKeys
+pub mod Lists
 pub mod Options
+pub mod Orderings
 pub mod Pairs
 pub mod ReadingAs
 pub mod Restates
 pub mod Results
+pub mod Written

@@ -3,12 +3,16 @@ use Rattle.std.specs.Prelude.{◌≡◌, ℕ, List, map}
 use Rattle.std.specs.List.{AllZip}
 use Rattle.bitcode_memory.specs.declared.error.Reason.{Reason}
 use Rattle.bitcode_shapes.specs.Datum.{Datum, Data, data_of}
+use Rattle.bitcode_untyped.specs.Machine.{State}
 use Rattle.bitcode_untyped.specs.Nodes.{node_count, node_counts}
 use Rattle.bitcode_untyped.specs.Reads.{ReadsFields, ReadsNoFields}
 use Rattle.bitcode_untyped.specs.ShapeTree.{ShapeTree, ShapeTrees}
 use Rattle.bitcode_untyped.specs.Spelling.{SpellsDatum}
+use Rattle.bitcode_untyped.specs.Walk.{Place}
 use Rattle.bitcode_serde.specs.Budget.{spend, IsLeft}
-use Rattle.bitcode_serde.specs.ReadingValues.{ReadsAt, ReadsFieldAt, ReadsListAt, GoesAlong, IsRefusalOf, field_at}
+use Rattle.bitcode_serde.specs.Places.{IsPlace}
+use Rattle.bitcode_serde.specs.Reading.{Stands}
+use Rattle.bitcode_serde.specs.ReadingValues.{Continues, ReadsAt, ReadsFieldAt, ReadsListAt, GoesAlong, IsRefusalOf, field_at}
 use Rattle.bitcode_serde.specs.declared.budget.Budget.{Budget}
 use Rattle.bitcode_serde.specs.declared.reader.Reader.{Reader}
 use Rattle.bitcode_serde_types.specs.Restates.{Restates, RestatesFields}
@@ -40,6 +44,12 @@ ReadsEachAs datum s place old before count ts new after =
 -- the same of field i of so many of a tuple at the place
 abbrev pub ReadsFieldAs : {A : Type 0} → (A → Datum) → ShapeTree → ℕ → ℕ → ℕ → Reader → Budget → A → Reader → Budget → Type 0
 ReadsFieldAs datum s place i fields old before t new after = KeepsAs (Restates s) datum (λ d. ReadsFieldAt s place i fields old d new) before t after
+
+-- The place of field i of so many of a tuple at the place.
+pub record FieldFound (old : Reader) (place i fields : ℕ) (new : Reader) (inside : ℕ) : Type 0 where
+  pub continues : Continues old new
+  pub found : (p : Place) → IsPlace old.places.below.items place p → IsPlace new.places.below.items inside (field_at fields p i)
+  pub stands : (a : State) → Stands old a → Stands new a
 
 -- ---- the fields of a tuple, from one on
 

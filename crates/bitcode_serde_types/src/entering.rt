@@ -1,5 +1,5 @@
 //! Steps into lists, maps, variants and fields.
-ghost use Rattle.std.specs.Prelude.{◌≡◌, ◌≤◌, ◌<◌, true, length, IfOk, IfErr, OnOk};
+ghost use Rattle.std.specs.Prelude.{◌≡◌, ◌≤◌, ◌<◌, suc, true, length, IfOk, IfErr, OnOk};
 ghost use Rattle.bitcode_coder.specs.Spelling.{natural};
 ghost use Rattle.bitcode_untyped.specs.Bounds.{column_free, free_limit};
 ghost use Rattle.bitcode_untyped.specs.ShapeTree.{ShapeTree, ShapeTrees, seq_tree, map_tree, choice_tree};
@@ -9,7 +9,7 @@ ghost use Rattle.bitcode_serde.specs.ReadingValues.{IsSteady, Continues, IsRefus
 ghost use Rattle.bitcode_serde.specs.ReadingValues.{Enters, EntersList, IsFieldRefusalAt};
 ghost use Rattle.bitcode_serde.proofs.ValueLemmas.{EntersMap};
 ghost use Rattle.bitcode_serde_types.specs.FieldsWritten.{tree_count};
-ghost use Rattle.bitcode_serde_types.specs.ReadingAs.{ReadsAs, ReadsFieldAs};
+ghost use Rattle.bitcode_serde_types.specs.ReadingAs.{ReadsAs, ReadsFieldAs, FieldFound};
 
 use crate::deserialize_as::DeserializeAs;
 use bitcode_memory::error::{Error, Reason};
@@ -40,6 +40,43 @@ pub struct Pairs {
 pub struct Variant {
     pub index: u8,
     pub place: usize,
+}
+
+/// Follows a reference: how many may be followed below it.
+///
+/// Errors: `nested too deep` if it is one too many.
+#[inline(always)]
+pub fn follow(left: usize) -> Result<usize, Error>
+    ensures followed { IfOk result (λ below. left ≡ suc below) }
+    ensures fewer { IfOk result (λ below. below < left) }
+    ensures refused { IfErr result (λ e. (left ≡ 0) × (e.reason ≡ Reason.NestedTooDeep)) }
+{
+    if left == 0 {
+        return err(Reason::NestedTooDeep);
+    }
+    Ok(left - 1)
+}
+
+/// Finds the place of field `i` of a struct or a tuple with `fields` fields.
+///
+/// Errors: `out of memory`.
+#[inline(always)]
+pub fn find_field(
+    reader: &mut Reader<'_>,
+    place: usize,
+    i: usize,
+    fields: usize,
+) -> Result<usize, Error>
+    requires place { place ≤ length reader.old.places.below.items }
+    requires steady { IsSteady reader.old }
+    ensures continues { OnOk result (Continues reader.old reader.new) }
+    ensures inside { IfOk result (λ inside. inside ≤ length reader.new.places.below.items) }
+    ensures found { IfOk result
+        (λ inside. FieldFound reader.old place i fields reader.new inside) }
+    ensures refused { IfErr result (λ e. e.reason ≡ Reason.OutOfMemory) }
+{
+    let found = reader.field(place, i, fields, i)?;
+    Ok(found)
 }
 
 /// Reads the length of a list, and finds the place of its elements. `is_free` says whether these have no column.
@@ -175,6 +212,8 @@ pub fn read_field<'a, T: DeserializeAs<'a>>(
     requires place { place ≤ length reader.old.places.below.items }
     requires steady { IsSteady reader.old }
     ensures continues { OnOk result (Continues reader.old reader.new) }
+    ensures there { OnOk result (place ≤ length reader.new.places.below.items) }
+    ensures steady { OnOk result (IsSteady reader.new) }
     ensures read { IfOk result
         (λ t. ReadsFieldAs T.datum (T.tree left) place i fields reader.old budget.old t reader.new
         budget.new) }

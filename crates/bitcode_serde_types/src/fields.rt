@@ -36,7 +36,7 @@ pub trait SerializeFields {
         fields: usize,
     ) -> Result<(), Error>
         requires place { place ≤ length writer.old.places.below.items }
-        requires all { i + tree_count (trees left) ≡ fields }
+        requires within { i + tree_count (trees left) ≤ fields }
         ensures { FieldsOutcome writer.old (trees left) place i fields (content self.now)
             (deep_faults_of_fields (trees left) (content self.now)) result writer.new };
 }

@@ -31,9 +31,9 @@ fn write_leaf<T: Case + Copy>(leaf: &T, writer: &mut Writer, place: usize) -> Re
     writer.put_one(place, T::column(), &value)
 }
 
-// Writes a text.
+/// Writes a text.
 #[inline(always)]
-fn write_text(words: &str, writer: &mut Writer, place: usize) -> Result<(), Error>
+pub(crate) fn write_text(words: &str, writer: &mut Writer, place: usize) -> Result<(), Error>
     requires { place ≤ length writer.old.places.below.items }
     ensures { Outcome writer.old text_tree place (text words.now) [] result writer.new }
 {

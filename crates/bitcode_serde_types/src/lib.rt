@@ -1,13 +1,19 @@
 //! The second format for Rust types, without a `Value`: recursive types among them.
 #![tactic(auto)]
 
+mod addresses;
+mod arrays;
 pub mod deserialize_as;
 pub mod entering;
 pub mod fields;
 pub mod keys;
 mod leaves;
+mod lists;
 pub mod maps;
+mod markers;
 mod options;
+mod orderings;
+mod parts;
 mod pointers;
 mod ranges;
 pub mod read_fields;
@@ -16,6 +22,8 @@ mod results;
 pub mod sequences;
 pub mod serialize_as;
 mod sets;
+mod texts;
 mod tuples;
 pub mod variants;
 mod wrappers;
+pub mod written;

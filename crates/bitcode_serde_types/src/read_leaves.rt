@@ -44,9 +44,9 @@ fn read_number<T: Case + Copy>(
     }
 }
 
-// Reads a text.
+/// Reads a text.
 #[inline(always)]
-fn read_text<'a>(
+pub(crate) fn read_text<'a>(
     reader: &mut Reader<'a>,
     budget: &mut Budget,
     place: usize,

@@ -4,9 +4,12 @@
 
 ghost use Rattle.bitcode_shapes.specs.Datum.{unit, tuple};
 ghost use Rattle.bitcode_untyped.specs.ShapeTree.{unit_tree, tuple_tree};
+ghost use Rattle.bitcode_serde_types.specs.Joined.{joined, joined_data};
+ghost use Rattle.bitcode_serde_types.specs.LawfulJoined.{joined_sound};
 
 use crate::deserialize_as::DeserializeAs;
 use crate::fields::{SerializeFields, write_tuple};
+use crate::parts::{are_free_in_parts, read_in_parts, write_in_parts};
 use crate::read_fields::{DeserializeFields, read_tuple};
 use crate::serialize_as::SerializeAs;
 use bitcode_memory::error::Error;
@@ -417,5 +420,848 @@ impl<
         )?;
         let (a, (b, (c, (d, (e, (f, (g, (h, _end)))))))) = fields;
         Ok((a, b, c, d, e, f, g, h))
+    }
+}
+
+impl<
+    A: SerializeAs,
+    B: SerializeAs,
+    C: SerializeAs,
+    D: SerializeAs,
+    E: SerializeAs,
+    F: SerializeAs,
+    G: SerializeAs,
+    H: SerializeAs,
+    I: SerializeAs,
+> SerializeAs for (A, B, C, D, E, F, G, H, I) {
+    ghost tree = { λ left. tuple_tree
+        (joined (⟦<(A, (B, (C, (D, (E, (F, (G, (H, ())))))))) as SerializeFields>⟧.trees left)
+        (⟦<(I, ()) as SerializeFields>⟧.trees left)) };
+
+    ghost datum = { λ t. tuple
+        (joined_data
+        (⟦<(A, (B, (C, (D, (E, (F, (G, (H, ())))))))) as SerializeFields>⟧.content
+        (t.0, (t.1, (t.2, (t.3, (t.4, (t.5, (t.6, (t.7, tt)))))))))
+        (⟦<(I, ()) as SerializeFields>⟧.content (t.8, tt))) };
+
+    ghost sound = { λ left. joined_sound
+        (⟦<(A, (B, (C, (D, (E, (F, (G, (H, ())))))))) as SerializeFields>⟧.trees left)
+        (⟦<(I, ()) as SerializeFields>⟧.trees left)
+        (⟦<(A, (B, (C, (D, (E, (F, (G, (H, ())))))))) as SerializeFields>⟧.sound left)
+        (⟦<(I, ()) as SerializeFields>⟧.sound left) };
+
+    fn write(&self, writer: &mut Writer, left: usize, place: usize) -> Result<(), Error> {
+        write_in_parts(
+            &(
+                &self.0,
+                (
+                    &self.1,
+                    (
+                        &self.2,
+                        (&self.3, (&self.4, (&self.5, (&self.6, (&self.7, ()))))),
+                    ),
+                ),
+            ),
+            &(&self.8, ()),
+            8,
+            9,
+            writer,
+            left,
+            place,
+        )
+    }
+}
+
+impl<
+    'a,
+    A: DeserializeAs<'a>,
+    B: DeserializeAs<'a>,
+    C: DeserializeAs<'a>,
+    D: DeserializeAs<'a>,
+    E: DeserializeAs<'a>,
+    F: DeserializeAs<'a>,
+    G: DeserializeAs<'a>,
+    H: DeserializeAs<'a>,
+    I: DeserializeAs<'a>,
+> DeserializeAs<'a> for (A, B, C, D, E, F, G, H, I) {
+    fn is_free() -> bool {
+        are_free_in_parts::<(A, (B, (C, (D, (E, (F, (G, (H, ())))))))), (I, ())>()
+    }
+
+    fn read(
+        alloc: Global,
+        reader: &mut Reader<'a>,
+        budget: &mut Budget,
+        left: usize,
+        place: usize,
+    ) -> Result<(A, B, C, D, E, F, G, H, I), Error> {
+        let fields: ((A, (B, (C, (D, (E, (F, (G, (H, ())))))))), (I, ())) = read_in_parts(
+            alloc, reader, budget, left, place, 8, 9,
+        )?;
+        let ((a, (b, (c, (d, (e, (f, (g, (h, _first_end)))))))), (i, _rest_end)) = fields;
+        Ok((a, b, c, d, e, f, g, h, i))
+    }
+}
+
+impl<
+    A: SerializeAs,
+    B: SerializeAs,
+    C: SerializeAs,
+    D: SerializeAs,
+    E: SerializeAs,
+    F: SerializeAs,
+    G: SerializeAs,
+    H: SerializeAs,
+    I: SerializeAs,
+    J: SerializeAs,
+> SerializeAs for (A, B, C, D, E, F, G, H, I, J) {
+    ghost tree = { λ left. tuple_tree
+        (joined (⟦<(A, (B, (C, (D, (E, (F, (G, (H, ())))))))) as SerializeFields>⟧.trees left)
+        (⟦<(I, (J, ())) as SerializeFields>⟧.trees left)) };
+
+    ghost datum = { λ t. tuple
+        (joined_data
+        (⟦<(A, (B, (C, (D, (E, (F, (G, (H, ())))))))) as SerializeFields>⟧.content
+        (t.0, (t.1, (t.2, (t.3, (t.4, (t.5, (t.6, (t.7, tt)))))))))
+        (⟦<(I, (J, ())) as SerializeFields>⟧.content (t.8, (t.9, tt)))) };
+
+    ghost sound = { λ left. joined_sound
+        (⟦<(A, (B, (C, (D, (E, (F, (G, (H, ())))))))) as SerializeFields>⟧.trees left)
+        (⟦<(I, (J, ())) as SerializeFields>⟧.trees left)
+        (⟦<(A, (B, (C, (D, (E, (F, (G, (H, ())))))))) as SerializeFields>⟧.sound left)
+        (⟦<(I, (J, ())) as SerializeFields>⟧.sound left) };
+
+    fn write(&self, writer: &mut Writer, left: usize, place: usize) -> Result<(), Error> {
+        write_in_parts(
+            &(
+                &self.0,
+                (
+                    &self.1,
+                    (
+                        &self.2,
+                        (&self.3, (&self.4, (&self.5, (&self.6, (&self.7, ()))))),
+                    ),
+                ),
+            ),
+            &(&self.8, (&self.9, ())),
+            8,
+            10,
+            writer,
+            left,
+            place,
+        )
+    }
+}
+
+impl<
+    'a,
+    A: DeserializeAs<'a>,
+    B: DeserializeAs<'a>,
+    C: DeserializeAs<'a>,
+    D: DeserializeAs<'a>,
+    E: DeserializeAs<'a>,
+    F: DeserializeAs<'a>,
+    G: DeserializeAs<'a>,
+    H: DeserializeAs<'a>,
+    I: DeserializeAs<'a>,
+    J: DeserializeAs<'a>,
+> DeserializeAs<'a> for (A, B, C, D, E, F, G, H, I, J) {
+    fn is_free() -> bool {
+        are_free_in_parts::<(A, (B, (C, (D, (E, (F, (G, (H, ())))))))), (I, (J, ()))>()
+    }
+
+    fn read(
+        alloc: Global,
+        reader: &mut Reader<'a>,
+        budget: &mut Budget,
+        left: usize,
+        place: usize,
+    ) -> Result<(A, B, C, D, E, F, G, H, I, J), Error> {
+        let fields: ((A, (B, (C, (D, (E, (F, (G, (H, ())))))))), (I, (J, ()))) = read_in_parts(
+            alloc, reader, budget, left, place, 8, 10,
+        )?;
+        let ((a, (b, (c, (d, (e, (f, (g, (h, _first_end)))))))), (i, (j, _rest_end))) = fields;
+        Ok((a, b, c, d, e, f, g, h, i, j))
+    }
+}
+
+impl<
+    A: SerializeAs,
+    B: SerializeAs,
+    C: SerializeAs,
+    D: SerializeAs,
+    E: SerializeAs,
+    F: SerializeAs,
+    G: SerializeAs,
+    H: SerializeAs,
+    I: SerializeAs,
+    J: SerializeAs,
+    K: SerializeAs,
+> SerializeAs for (A, B, C, D, E, F, G, H, I, J, K) {
+    ghost tree = { λ left. tuple_tree
+        (joined (⟦<(A, (B, (C, (D, (E, (F, (G, (H, ())))))))) as SerializeFields>⟧.trees left)
+        (⟦<(I, (J, (K, ()))) as SerializeFields>⟧.trees left)) };
+
+    ghost datum = { λ t. tuple
+        (joined_data
+        (⟦<(A, (B, (C, (D, (E, (F, (G, (H, ())))))))) as SerializeFields>⟧.content
+        (t.0, (t.1, (t.2, (t.3, (t.4, (t.5, (t.6, (t.7, tt)))))))))
+        (⟦<(I, (J, (K, ()))) as SerializeFields>⟧.content (t.8, (t.9, (t.10, tt))))) };
+
+    ghost sound = { λ left. joined_sound
+        (⟦<(A, (B, (C, (D, (E, (F, (G, (H, ())))))))) as SerializeFields>⟧.trees left)
+        (⟦<(I, (J, (K, ()))) as SerializeFields>⟧.trees left)
+        (⟦<(A, (B, (C, (D, (E, (F, (G, (H, ())))))))) as SerializeFields>⟧.sound left)
+        (⟦<(I, (J, (K, ()))) as SerializeFields>⟧.sound left) };
+
+    fn write(&self, writer: &mut Writer, left: usize, place: usize) -> Result<(), Error> {
+        write_in_parts(
+            &(
+                &self.0,
+                (
+                    &self.1,
+                    (
+                        &self.2,
+                        (&self.3, (&self.4, (&self.5, (&self.6, (&self.7, ()))))),
+                    ),
+                ),
+            ),
+            &(&self.8, (&self.9, (&self.10, ()))),
+            8,
+            11,
+            writer,
+            left,
+            place,
+        )
+    }
+}
+
+impl<
+    'a,
+    A: DeserializeAs<'a>,
+    B: DeserializeAs<'a>,
+    C: DeserializeAs<'a>,
+    D: DeserializeAs<'a>,
+    E: DeserializeAs<'a>,
+    F: DeserializeAs<'a>,
+    G: DeserializeAs<'a>,
+    H: DeserializeAs<'a>,
+    I: DeserializeAs<'a>,
+    J: DeserializeAs<'a>,
+    K: DeserializeAs<'a>,
+> DeserializeAs<'a> for (A, B, C, D, E, F, G, H, I, J, K) {
+    fn is_free() -> bool {
+        are_free_in_parts::<(A, (B, (C, (D, (E, (F, (G, (H, ())))))))), (I, (J, (K, ())))>()
+    }
+
+    fn read(
+        alloc: Global,
+        reader: &mut Reader<'a>,
+        budget: &mut Budget,
+        left: usize,
+        place: usize,
+    ) -> Result<(A, B, C, D, E, F, G, H, I, J, K), Error> {
+        let fields: (
+            (A, (B, (C, (D, (E, (F, (G, (H, ())))))))),
+            (I, (J, (K, ()))),
+        ) = read_in_parts(alloc, reader, budget, left, place, 8, 11)?;
+        let ((a, (b, (c, (d, (e, (f, (g, (h, _first_end)))))))), (i, (j, (k, _rest_end)))) = fields;
+        Ok((a, b, c, d, e, f, g, h, i, j, k))
+    }
+}
+
+impl<
+    A: SerializeAs,
+    B: SerializeAs,
+    C: SerializeAs,
+    D: SerializeAs,
+    E: SerializeAs,
+    F: SerializeAs,
+    G: SerializeAs,
+    H: SerializeAs,
+    I: SerializeAs,
+    J: SerializeAs,
+    K: SerializeAs,
+    L: SerializeAs,
+> SerializeAs for (A, B, C, D, E, F, G, H, I, J, K, L) {
+    ghost tree = { λ left. tuple_tree
+        (joined (⟦<(A, (B, (C, (D, (E, (F, (G, (H, ())))))))) as SerializeFields>⟧.trees left)
+        (⟦<(I, (J, (K, (L, ())))) as SerializeFields>⟧.trees left)) };
+
+    ghost datum = { λ t. tuple
+        (joined_data
+        (⟦<(A, (B, (C, (D, (E, (F, (G, (H, ())))))))) as SerializeFields>⟧.content
+        (t.0, (t.1, (t.2, (t.3, (t.4, (t.5, (t.6, (t.7, tt)))))))))
+        (⟦<(I, (J, (K, (L, ())))) as SerializeFields>⟧.content (t.8, (t.9, (t.10, (t.11, tt)))))) };
+
+    ghost sound = { λ left. joined_sound
+        (⟦<(A, (B, (C, (D, (E, (F, (G, (H, ())))))))) as SerializeFields>⟧.trees left)
+        (⟦<(I, (J, (K, (L, ())))) as SerializeFields>⟧.trees left)
+        (⟦<(A, (B, (C, (D, (E, (F, (G, (H, ())))))))) as SerializeFields>⟧.sound left)
+        (⟦<(I, (J, (K, (L, ())))) as SerializeFields>⟧.sound left) };
+
+    fn write(&self, writer: &mut Writer, left: usize, place: usize) -> Result<(), Error> {
+        write_in_parts(
+            &(
+                &self.0,
+                (
+                    &self.1,
+                    (
+                        &self.2,
+                        (&self.3, (&self.4, (&self.5, (&self.6, (&self.7, ()))))),
+                    ),
+                ),
+            ),
+            &(&self.8, (&self.9, (&self.10, (&self.11, ())))),
+            8,
+            12,
+            writer,
+            left,
+            place,
+        )
+    }
+}
+
+impl<
+    'a,
+    A: DeserializeAs<'a>,
+    B: DeserializeAs<'a>,
+    C: DeserializeAs<'a>,
+    D: DeserializeAs<'a>,
+    E: DeserializeAs<'a>,
+    F: DeserializeAs<'a>,
+    G: DeserializeAs<'a>,
+    H: DeserializeAs<'a>,
+    I: DeserializeAs<'a>,
+    J: DeserializeAs<'a>,
+    K: DeserializeAs<'a>,
+    L: DeserializeAs<'a>,
+> DeserializeAs<'a> for (A, B, C, D, E, F, G, H, I, J, K, L) {
+    fn is_free() -> bool {
+        are_free_in_parts::<(A, (B, (C, (D, (E, (F, (G, (H, ())))))))), (I, (J, (K, (L, ()))))>()
+    }
+
+    fn read(
+        alloc: Global,
+        reader: &mut Reader<'a>,
+        budget: &mut Budget,
+        left: usize,
+        place: usize,
+    ) -> Result<(A, B, C, D, E, F, G, H, I, J, K, L), Error> {
+        let fields: (
+            (A, (B, (C, (D, (E, (F, (G, (H, ())))))))),
+            (I, (J, (K, (L, ())))),
+        ) = read_in_parts(alloc, reader, budget, left, place, 8, 12)?;
+        let ((a, (b, (c, (d, (e, (f, (g, (h, _first_end)))))))), (i, (j, (k, (l, _rest_end))))) =
+            fields;
+        Ok((a, b, c, d, e, f, g, h, i, j, k, l))
+    }
+}
+
+impl<
+    A: SerializeAs,
+    B: SerializeAs,
+    C: SerializeAs,
+    D: SerializeAs,
+    E: SerializeAs,
+    F: SerializeAs,
+    G: SerializeAs,
+    H: SerializeAs,
+    I: SerializeAs,
+    J: SerializeAs,
+    K: SerializeAs,
+    L: SerializeAs,
+    M: SerializeAs,
+> SerializeAs for (A, B, C, D, E, F, G, H, I, J, K, L, M) {
+    ghost tree = { λ left. tuple_tree
+        (joined (⟦<(A, (B, (C, (D, (E, (F, (G, (H, ())))))))) as SerializeFields>⟧.trees left)
+        (⟦<(I, (J, (K, (L, (M, ()))))) as SerializeFields>⟧.trees left)) };
+
+    ghost datum = { λ t. tuple
+        (joined_data
+        (⟦<(A, (B, (C, (D, (E, (F, (G, (H, ())))))))) as SerializeFields>⟧.content (
+          t.0,
+          (
+            t.1.0,
+            (
+              t.1.1.0,
+              (
+                t.1.1.1.0,
+                (t.1.1.1.1.0, (t.1.1.1.1.1.0, (t.1.1.1.1.1.1.0, (t.1.1.1.1.1.1.1.0, tt)))),
+              ),
+            ),
+          ),
+        ))
+        (⟦<(I, (J, (K, (L, (M, ()))))) as SerializeFields>⟧.content (
+          t.1.1.1.1.1.1.1.1.0,
+          (
+            t.1.1.1.1.1.1.1.1.1.0,
+            (
+              t.1.1.1.1.1.1.1.1.1.1.0,
+              (t.1.1.1.1.1.1.1.1.1.1.1.0, (t.1.1.1.1.1.1.1.1.1.1.1.1.0, tt)),
+            ),
+          ),
+        ))) };
+
+    ghost sound = { λ left. joined_sound
+        (⟦<(A, (B, (C, (D, (E, (F, (G, (H, ())))))))) as SerializeFields>⟧.trees left)
+        (⟦<(I, (J, (K, (L, (M, ()))))) as SerializeFields>⟧.trees left)
+        (⟦<(A, (B, (C, (D, (E, (F, (G, (H, ())))))))) as SerializeFields>⟧.sound left)
+        (⟦<(I, (J, (K, (L, (M, ()))))) as SerializeFields>⟧.sound left) };
+
+    fn write(&self, writer: &mut Writer, left: usize, place: usize) -> Result<(), Error> {
+        write_in_parts(
+            &(
+                &self.0,
+                (
+                    &self.1,
+                    (
+                        &self.2,
+                        (&self.3, (&self.4, (&self.5, (&self.6, (&self.7, ()))))),
+                    ),
+                ),
+            ),
+            &(&self.8, (&self.9, (&self.10, (&self.11, (&self.12, ()))))),
+            8,
+            13,
+            writer,
+            left,
+            place,
+        )
+    }
+}
+
+impl<
+    'a,
+    A: DeserializeAs<'a>,
+    B: DeserializeAs<'a>,
+    C: DeserializeAs<'a>,
+    D: DeserializeAs<'a>,
+    E: DeserializeAs<'a>,
+    F: DeserializeAs<'a>,
+    G: DeserializeAs<'a>,
+    H: DeserializeAs<'a>,
+    I: DeserializeAs<'a>,
+    J: DeserializeAs<'a>,
+    K: DeserializeAs<'a>,
+    L: DeserializeAs<'a>,
+    M: DeserializeAs<'a>,
+> DeserializeAs<'a> for (A, B, C, D, E, F, G, H, I, J, K, L, M) {
+    fn is_free() -> bool {
+        are_free_in_parts::<
+            (A, (B, (C, (D, (E, (F, (G, (H, ())))))))),
+            (I, (J, (K, (L, (M, ()))))),
+        >()
+    }
+
+    fn read(
+        alloc: Global,
+        reader: &mut Reader<'a>,
+        budget: &mut Budget,
+        left: usize,
+        place: usize,
+    ) -> Result<(A, B, C, D, E, F, G, H, I, J, K, L, M), Error> {
+        let fields: (
+            (A, (B, (C, (D, (E, (F, (G, (H, ())))))))),
+            (I, (J, (K, (L, (M, ()))))),
+        ) = read_in_parts(alloc, reader, budget, left, place, 8, 13)?;
+        let (
+            (a, (b, (c, (d, (e, (f, (g, (h, _first_end)))))))),
+            (i, (j, (k, (l, (m, _rest_end))))),
+        ) = fields;
+        Ok((a, b, c, d, e, f, g, h, i, j, k, l, m))
+    }
+}
+
+impl<
+    A: SerializeAs,
+    B: SerializeAs,
+    C: SerializeAs,
+    D: SerializeAs,
+    E: SerializeAs,
+    F: SerializeAs,
+    G: SerializeAs,
+    H: SerializeAs,
+    I: SerializeAs,
+    J: SerializeAs,
+    K: SerializeAs,
+    L: SerializeAs,
+    M: SerializeAs,
+    N: SerializeAs,
+> SerializeAs for (A, B, C, D, E, F, G, H, I, J, K, L, M, N) {
+    ghost tree = { λ left. tuple_tree
+        (joined (⟦<(A, (B, (C, (D, (E, (F, (G, (H, ())))))))) as SerializeFields>⟧.trees left)
+        (⟦<(I, (J, (K, (L, (M, (N, ())))))) as SerializeFields>⟧.trees left)) };
+
+    ghost datum = { λ t. tuple
+        (joined_data
+        (⟦<(A, (B, (C, (D, (E, (F, (G, (H, ())))))))) as SerializeFields>⟧.content (
+          t.0,
+          (
+            t.1.0,
+            (
+              t.1.1.0,
+              (
+                t.1.1.1.0,
+                (t.1.1.1.1.0, (t.1.1.1.1.1.0, (t.1.1.1.1.1.1.0, (t.1.1.1.1.1.1.1.0, tt)))),
+              ),
+            ),
+          ),
+        ))
+        (⟦<(I, (J, (K, (L, (M, (N, ())))))) as SerializeFields>⟧.content (
+          t.1.1.1.1.1.1.1.1.0,
+          (
+            t.1.1.1.1.1.1.1.1.1.0,
+            (
+              t.1.1.1.1.1.1.1.1.1.1.0,
+              (
+                t.1.1.1.1.1.1.1.1.1.1.1.0,
+                (t.1.1.1.1.1.1.1.1.1.1.1.1.0, (t.1.1.1.1.1.1.1.1.1.1.1.1.1.0, tt)),
+              ),
+            ),
+          ),
+        ))) };
+
+    ghost sound = { λ left. joined_sound
+        (⟦<(A, (B, (C, (D, (E, (F, (G, (H, ())))))))) as SerializeFields>⟧.trees left)
+        (⟦<(I, (J, (K, (L, (M, (N, ())))))) as SerializeFields>⟧.trees left)
+        (⟦<(A, (B, (C, (D, (E, (F, (G, (H, ())))))))) as SerializeFields>⟧.sound left)
+        (⟦<(I, (J, (K, (L, (M, (N, ())))))) as SerializeFields>⟧.sound left) };
+
+    fn write(&self, writer: &mut Writer, left: usize, place: usize) -> Result<(), Error> {
+        write_in_parts(
+            &(
+                &self.0,
+                (
+                    &self.1,
+                    (
+                        &self.2,
+                        (&self.3, (&self.4, (&self.5, (&self.6, (&self.7, ()))))),
+                    ),
+                ),
+            ),
+            &(
+                &self.8,
+                (&self.9, (&self.10, (&self.11, (&self.12, (&self.13, ()))))),
+            ),
+            8,
+            14,
+            writer,
+            left,
+            place,
+        )
+    }
+}
+
+impl<
+    'a,
+    A: DeserializeAs<'a>,
+    B: DeserializeAs<'a>,
+    C: DeserializeAs<'a>,
+    D: DeserializeAs<'a>,
+    E: DeserializeAs<'a>,
+    F: DeserializeAs<'a>,
+    G: DeserializeAs<'a>,
+    H: DeserializeAs<'a>,
+    I: DeserializeAs<'a>,
+    J: DeserializeAs<'a>,
+    K: DeserializeAs<'a>,
+    L: DeserializeAs<'a>,
+    M: DeserializeAs<'a>,
+    N: DeserializeAs<'a>,
+> DeserializeAs<'a> for (A, B, C, D, E, F, G, H, I, J, K, L, M, N) {
+    fn is_free() -> bool {
+        are_free_in_parts::<
+            (A, (B, (C, (D, (E, (F, (G, (H, ())))))))),
+            (I, (J, (K, (L, (M, (N, ())))))),
+        >()
+    }
+
+    fn read(
+        alloc: Global,
+        reader: &mut Reader<'a>,
+        budget: &mut Budget,
+        left: usize,
+        place: usize,
+    ) -> Result<(A, B, C, D, E, F, G, H, I, J, K, L, M, N), Error> {
+        let fields: (
+            (A, (B, (C, (D, (E, (F, (G, (H, ())))))))),
+            (I, (J, (K, (L, (M, (N, ())))))),
+        ) = read_in_parts(alloc, reader, budget, left, place, 8, 14)?;
+        let (
+            (a, (b, (c, (d, (e, (f, (g, (h, _first_end)))))))),
+            (i, (j, (k, (l, (m, (n, _rest_end)))))),
+        ) = fields;
+        Ok((a, b, c, d, e, f, g, h, i, j, k, l, m, n))
+    }
+}
+
+impl<
+    A: SerializeAs,
+    B: SerializeAs,
+    C: SerializeAs,
+    D: SerializeAs,
+    E: SerializeAs,
+    F: SerializeAs,
+    G: SerializeAs,
+    H: SerializeAs,
+    I: SerializeAs,
+    J: SerializeAs,
+    K: SerializeAs,
+    L: SerializeAs,
+    M: SerializeAs,
+    N: SerializeAs,
+    O: SerializeAs,
+> SerializeAs for (A, B, C, D, E, F, G, H, I, J, K, L, M, N, O) {
+    ghost tree = { λ left. tuple_tree
+        (joined (⟦<(A, (B, (C, (D, (E, (F, (G, (H, ())))))))) as SerializeFields>⟧.trees left)
+        (⟦<(I, (J, (K, (L, (M, (N, (O, ()))))))) as SerializeFields>⟧.trees left)) };
+
+    ghost datum = { λ t. tuple
+        (joined_data
+        (⟦<(A, (B, (C, (D, (E, (F, (G, (H, ())))))))) as SerializeFields>⟧.content (
+          t.0,
+          (
+            t.1.0,
+            (
+              t.1.1.0,
+              (
+                t.1.1.1.0,
+                (t.1.1.1.1.0, (t.1.1.1.1.1.0, (t.1.1.1.1.1.1.0, (t.1.1.1.1.1.1.1.0, tt)))),
+              ),
+            ),
+          ),
+        ))
+        (⟦<(I, (J, (K, (L, (M, (N, (O, ()))))))) as SerializeFields>⟧.content (
+          t.1.1.1.1.1.1.1.1.0,
+          (
+            t.1.1.1.1.1.1.1.1.1.0,
+            (
+              t.1.1.1.1.1.1.1.1.1.1.0,
+              (
+                t.1.1.1.1.1.1.1.1.1.1.1.0,
+                (
+                  t.1.1.1.1.1.1.1.1.1.1.1.1.0,
+                  (t.1.1.1.1.1.1.1.1.1.1.1.1.1.0, (t.1.1.1.1.1.1.1.1.1.1.1.1.1.1.0, tt)),
+                ),
+              ),
+            ),
+          ),
+        ))) };
+
+    ghost sound = { λ left. joined_sound
+        (⟦<(A, (B, (C, (D, (E, (F, (G, (H, ())))))))) as SerializeFields>⟧.trees left)
+        (⟦<(I, (J, (K, (L, (M, (N, (O, ()))))))) as SerializeFields>⟧.trees left)
+        (⟦<(A, (B, (C, (D, (E, (F, (G, (H, ())))))))) as SerializeFields>⟧.sound left)
+        (⟦<(I, (J, (K, (L, (M, (N, (O, ()))))))) as SerializeFields>⟧.sound left) };
+
+    fn write(&self, writer: &mut Writer, left: usize, place: usize) -> Result<(), Error> {
+        write_in_parts(
+            &(
+                &self.0,
+                (
+                    &self.1,
+                    (
+                        &self.2,
+                        (&self.3, (&self.4, (&self.5, (&self.6, (&self.7, ()))))),
+                    ),
+                ),
+            ),
+            &(
+                &self.8,
+                (
+                    &self.9,
+                    (&self.10, (&self.11, (&self.12, (&self.13, (&self.14, ()))))),
+                ),
+            ),
+            8,
+            15,
+            writer,
+            left,
+            place,
+        )
+    }
+}
+
+impl<
+    'a,
+    A: DeserializeAs<'a>,
+    B: DeserializeAs<'a>,
+    C: DeserializeAs<'a>,
+    D: DeserializeAs<'a>,
+    E: DeserializeAs<'a>,
+    F: DeserializeAs<'a>,
+    G: DeserializeAs<'a>,
+    H: DeserializeAs<'a>,
+    I: DeserializeAs<'a>,
+    J: DeserializeAs<'a>,
+    K: DeserializeAs<'a>,
+    L: DeserializeAs<'a>,
+    M: DeserializeAs<'a>,
+    N: DeserializeAs<'a>,
+    O: DeserializeAs<'a>,
+> DeserializeAs<'a> for (A, B, C, D, E, F, G, H, I, J, K, L, M, N, O) {
+    fn is_free() -> bool {
+        are_free_in_parts::<
+            (A, (B, (C, (D, (E, (F, (G, (H, ())))))))),
+            (I, (J, (K, (L, (M, (N, (O, ()))))))),
+        >()
+    }
+
+    fn read(
+        alloc: Global,
+        reader: &mut Reader<'a>,
+        budget: &mut Budget,
+        left: usize,
+        place: usize,
+    ) -> Result<(A, B, C, D, E, F, G, H, I, J, K, L, M, N, O), Error> {
+        let fields: (
+            (A, (B, (C, (D, (E, (F, (G, (H, ())))))))),
+            (I, (J, (K, (L, (M, (N, (O, ()))))))),
+        ) = read_in_parts(alloc, reader, budget, left, place, 8, 15)?;
+        let (
+            (a, (b, (c, (d, (e, (f, (g, (h, _first_end)))))))),
+            (i, (j, (k, (l, (m, (n, (o, _rest_end))))))),
+        ) = fields;
+        Ok((a, b, c, d, e, f, g, h, i, j, k, l, m, n, o))
+    }
+}
+
+impl<
+    A: SerializeAs,
+    B: SerializeAs,
+    C: SerializeAs,
+    D: SerializeAs,
+    E: SerializeAs,
+    F: SerializeAs,
+    G: SerializeAs,
+    H: SerializeAs,
+    I: SerializeAs,
+    J: SerializeAs,
+    K: SerializeAs,
+    L: SerializeAs,
+    M: SerializeAs,
+    N: SerializeAs,
+    O: SerializeAs,
+    P: SerializeAs,
+> SerializeAs for (A, B, C, D, E, F, G, H, I, J, K, L, M, N, O, P) {
+    ghost tree = { λ left. tuple_tree
+        (joined (⟦<(A, (B, (C, (D, (E, (F, (G, (H, ())))))))) as SerializeFields>⟧.trees left)
+        (⟦<(I, (J, (K, (L, (M, (N, (O, (P, ())))))))) as SerializeFields>⟧.trees left)) };
+
+    ghost datum = { λ t. tuple
+        (joined_data
+        (⟦<(A, (B, (C, (D, (E, (F, (G, (H, ())))))))) as SerializeFields>⟧.content (
+          t.0,
+          (
+            t.1.0,
+            (
+              t.1.1.0,
+              (
+                t.1.1.1.0,
+                (t.1.1.1.1.0, (t.1.1.1.1.1.0, (t.1.1.1.1.1.1.0, (t.1.1.1.1.1.1.1.0, tt)))),
+              ),
+            ),
+          ),
+        ))
+        (⟦<(I, (J, (K, (L, (M, (N, (O, (P, ())))))))) as SerializeFields>⟧.content (
+          t.1.1.1.1.1.1.1.1.0,
+          (
+            t.1.1.1.1.1.1.1.1.1.0,
+            (
+              t.1.1.1.1.1.1.1.1.1.1.0,
+              (
+                t.1.1.1.1.1.1.1.1.1.1.1.0,
+                (
+                  t.1.1.1.1.1.1.1.1.1.1.1.1.0,
+                  (
+                    t.1.1.1.1.1.1.1.1.1.1.1.1.1.0,
+                    (t.1.1.1.1.1.1.1.1.1.1.1.1.1.1.0, (t.1.1.1.1.1.1.1.1.1.1.1.1.1.1.1.0, tt)),
+                  ),
+                ),
+              ),
+            ),
+          ),
+        ))) };
+
+    ghost sound = { λ left. joined_sound
+        (⟦<(A, (B, (C, (D, (E, (F, (G, (H, ())))))))) as SerializeFields>⟧.trees left)
+        (⟦<(I, (J, (K, (L, (M, (N, (O, (P, ())))))))) as SerializeFields>⟧.trees left)
+        (⟦<(A, (B, (C, (D, (E, (F, (G, (H, ())))))))) as SerializeFields>⟧.sound left)
+        (⟦<(I, (J, (K, (L, (M, (N, (O, (P, ())))))))) as SerializeFields>⟧.sound left) };
+
+    fn write(&self, writer: &mut Writer, left: usize, place: usize) -> Result<(), Error> {
+        write_in_parts(
+            &(
+                &self.0,
+                (
+                    &self.1,
+                    (
+                        &self.2,
+                        (&self.3, (&self.4, (&self.5, (&self.6, (&self.7, ()))))),
+                    ),
+                ),
+            ),
+            &(
+                &self.8,
+                (
+                    &self.9,
+                    (
+                        &self.10,
+                        (&self.11, (&self.12, (&self.13, (&self.14, (&self.15, ()))))),
+                    ),
+                ),
+            ),
+            8,
+            16,
+            writer,
+            left,
+            place,
+        )
+    }
+}
+
+impl<
+    'a,
+    A: DeserializeAs<'a>,
+    B: DeserializeAs<'a>,
+    C: DeserializeAs<'a>,
+    D: DeserializeAs<'a>,
+    E: DeserializeAs<'a>,
+    F: DeserializeAs<'a>,
+    G: DeserializeAs<'a>,
+    H: DeserializeAs<'a>,
+    I: DeserializeAs<'a>,
+    J: DeserializeAs<'a>,
+    K: DeserializeAs<'a>,
+    L: DeserializeAs<'a>,
+    M: DeserializeAs<'a>,
+    N: DeserializeAs<'a>,
+    O: DeserializeAs<'a>,
+    P: DeserializeAs<'a>,
+> DeserializeAs<'a> for (A, B, C, D, E, F, G, H, I, J, K, L, M, N, O, P) {
+    fn is_free() -> bool {
+        are_free_in_parts::<
+            (A, (B, (C, (D, (E, (F, (G, (H, ())))))))),
+            (I, (J, (K, (L, (M, (N, (O, (P, ())))))))),
+        >()
+    }
+
+    fn read(
+        alloc: Global,
+        reader: &mut Reader<'a>,
+        budget: &mut Budget,
+        left: usize,
+        place: usize,
+    ) -> Result<(A, B, C, D, E, F, G, H, I, J, K, L, M, N, O, P), Error> {
+        let fields: (
+            (A, (B, (C, (D, (E, (F, (G, (H, ())))))))),
+            (I, (J, (K, (L, (M, (N, (O, (P, ())))))))),
+        ) = read_in_parts(alloc, reader, budget, left, place, 8, 16)?;
+        let (
+            (a, (b, (c, (d, (e, (f, (g, (h, _first_end)))))))),
+            (i, (j, (k, (l, (m, (n, (o, (p, _rest_end)))))))),
+        ) = fields;
+        Ok((a, b, c, d, e, f, g, h, i, j, k, l, m, n, o, p))
     }
 }

@@ -100,5 +100,15 @@ impl<P: Shaped + Drop, T: FromDecoded<P>, D: Decoder<P>> Decoder<T> for PrivateD
         Ok(T::from_decoded(Decoded { fields }))
     }
 
+    fn reads_one() -> bool {
+        D::reads_one()
+    }
+
+    #[inline(always)]
+    fn read_one(alloc: Global, input: &mut &[u8]) -> Option<T> {
+        let fields = D::read_one(alloc, input)?;
+        Some(T::from_decoded(Decoded { fields }))
+    }
+
     ghost same_shape = { D.same_shape ∙ sym T.same_shape };
 }

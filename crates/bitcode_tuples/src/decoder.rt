@@ -95,5 +95,16 @@ impl<P: Shaped + Drop, Q: Shaped, A: Decoder<P>, B: Decoder<Q>> Decoder<(P, Q)>
         Ok((first, second))
     }
 
+    fn reads_one() -> bool {
+        A::reads_one() && B::reads_one()
+    }
+
+    #[inline(always)]
+    fn read_one(alloc: Global, input: &mut &[u8]) -> Option<(P, Q)> {
+        let first = A::read_one(alloc, input)?;
+        let second = B::read_one(alloc, input)?;
+        Some((first, second))
+    }
+
     ghost same_shape = { same_pair_shape A.same_shape B.same_shape };
 }

@@ -9,10 +9,16 @@ use bitcode_recursive_types::directory::{Directory, Entry};
 use bitcode_recursive_types::expr::Expr;
 use bitcode_recursive_types::node::Node;
 use std::alloc::Global;
+use std::borrow::CowStr;
+use std::boxed::BoxedStr;
+use std::cmp::Ordering;
+use std::collections::{LinkedList, VecDeque};
+use std::marker::PhantomData;
+use std::net::{IpAddr, Ipv4Addr, Ipv6Addr, SocketAddr, SocketAddrV4, SocketAddrV6};
 use std::num::{Saturating, Wrapping};
 use std::ops::{Range, RangeInclusive};
-use std::rc::Rc;
-use std::sync::Arc;
+use std::rc::{Rc, RcSlice, RcStr};
+use std::sync::{Arc, ArcSlice, ArcStr};
 
 // Writes a value, expects the bytes of a `Value` under a node, and writes what is read of them again.
 fn comes_back<T: SerializeAs + for<'a> DeserializeAs<'a>>(
@@ -128,6 +134,154 @@ fn other_types_of_std_come_back(rt: HostRuntime) -> Result<(), Error> {
     assert!(rt; comes_back(alloc, &Range { start: 0u8, end: 1u8 }, node, &value)?);
     let (node, value) = bytes_of(alloc, 2)?;
     assert!(rt; comes_back(alloc, &RangeInclusive::new(0u8, 1u8), node, &value)?);
+    Ok(())
+}
+
+#[test]
+fn long_tuples_come_back(rt: HostRuntime) -> Result<(), Error> {
+    let alloc = rt.alloc();
+    let (node, value) = bytes_of(alloc, 9)?;
+    assert!(rt; comes_back(alloc, &(0u8, 1u8, 2u8, 3u8, 4u8, 5u8, 6u8, 7u8, 8u8), node, &value)?);
+    let (node, value) = bytes_of(alloc, 10)?;
+    assert!(rt; comes_back(alloc, &(0u8, 1u8, 2u8, 3u8, 4u8, 5u8, 6u8, 7u8, 8u8, 9u8), node, &value)?);
+    let (node, value) = bytes_of(alloc, 11)?;
+    assert!(rt; comes_back(alloc, &(0u8, 1u8, 2u8, 3u8, 4u8, 5u8, 6u8, 7u8, 8u8, 9u8, 10u8), node, &value)?);
+    let (node, value) = bytes_of(alloc, 12)?;
+    assert!(rt; comes_back(alloc, &(0u8, 1u8, 2u8, 3u8, 4u8, 5u8, 6u8, 7u8, 8u8, 9u8, 10u8, 11u8), node, &value)?);
+    let (node, value) = bytes_of(alloc, 13)?;
+    assert!(rt; comes_back(alloc, &(0u8, 1u8, 2u8, 3u8, 4u8, 5u8, 6u8, 7u8, 8u8, 9u8, 10u8, 11u8, 12u8), node, &value)?);
+    let (node, value) = bytes_of(alloc, 14)?;
+    assert!(rt; comes_back(alloc, &(0u8, 1u8, 2u8, 3u8, 4u8, 5u8, 6u8, 7u8, 8u8, 9u8, 10u8, 11u8, 12u8, 13u8), node, &value)?);
+    let (node, value) = bytes_of(alloc, 15)?;
+    assert!(rt; comes_back(alloc, &(0u8, 1u8, 2u8, 3u8, 4u8, 5u8, 6u8, 7u8, 8u8, 9u8, 10u8, 11u8, 12u8, 13u8, 14u8), node, &value)?);
+    let (node, value) = bytes_of(alloc, 16)?;
+    assert!(rt; comes_back(alloc, &(0u8, 1u8, 2u8, 3u8, 4u8, 5u8, 6u8, 7u8, 8u8, 9u8, 10u8, 11u8, 12u8, 13u8, 14u8, 15u8), node, &value)?);
+    Ok(())
+}
+
+#[test]
+fn arrays_come_back(rt: HostRuntime) -> Result<(), Error> {
+    let alloc = rt.alloc();
+    let (node, value) = bytes_of(alloc, 0)?;
+    let none: [u8; 0] = [];
+    assert!(rt; comes_back(alloc, &none, node, &value)?);
+    let (node, value) = bytes_of(alloc, 1)?;
+    assert!(rt; comes_back(alloc, &[0u8], node, &value)?);
+    let (node, value) = bytes_of(alloc, 3)?;
+    assert!(rt; comes_back(alloc, &[0u8, 1, 2], node, &value)?);
+    let (node, value) = bytes_of(alloc, 2)?;
+    let list = ShapeNode::Seq(Box::new(alloc, node)?);
+    let values = Value::Seq(vec![in alloc; value]?);
+    assert!(rt; comes_back(alloc, &vec![in alloc; [0u8, 1]]?, list, &values)?);
+    let again: [u8; 3] = deserialize_as(alloc, &[7, 8, 9])?;
+    assert!(rt; again == [7, 8, 9]);
+    Ok(())
+}
+
+// A list of two bytes.
+fn two_bytes(alloc: Global) -> Result<(ShapeNode, Value, Vec<u8>), Error> {
+    let list = vec![in alloc; 7u8, 8]?;
+    Ok((ShapeNode::Bytes, Value::Bytes(vec![in alloc; 7u8, 8]?), list))
+}
+
+#[test]
+fn lists_of_std_come_back(rt: HostRuntime) -> Result<(), Error> {
+    let alloc = rt.alloc();
+    let (node, value, list) = two_bytes(alloc)?;
+    assert!(rt; serialize_as(alloc, &list.as_slice())? == serialize_as(alloc, &list)?);
+    let mut queue = VecDeque::from(list);
+    queue.pop_front();
+    queue.push_back(8)?;
+    queue.push_front(7)?;
+    queue.pop_back();
+    assert!(rt; comes_back(alloc, &queue, node, &value)?);
+    let (node, value, list) = two_bytes(alloc)?;
+    assert!(rt; comes_back(alloc, &list.into_boxed_slice(), node, &value)?);
+    let (node, value, list) = two_bytes(alloc)?;
+    assert!(rt; comes_back(alloc, &RcSlice::from_vec(list)?, node, &value)?);
+    let (node, value, list) = two_bytes(alloc)?;
+    assert!(rt; comes_back(alloc, &ArcSlice::from_vec(list)?, node, &value)?);
+    let (node, value, list) = two_bytes(alloc)?;
+    assert!(rt; comes_back(alloc, &LinkedList::from_iter(alloc, list)?, node, &value)?);
+    Ok(())
+}
+
+#[test]
+fn texts_of_std_come_back(rt: HostRuntime) -> Result<(), Error> {
+    let alloc = rt.alloc();
+    let words = text(alloc, "words")?;
+    assert!(rt; comes_back(alloc, &BoxedStr::from_str(alloc, "words")?, ShapeNode::Str, &words)?);
+    assert!(rt; comes_back(alloc, &RcStr::from_str(alloc, "words")?, ShapeNode::Str, &words)?);
+    assert!(rt; comes_back(alloc, &ArcStr::from_str(alloc, "words")?, ShapeNode::Str, &words)?);
+    let bytes = serialize_as(alloc, &CowStr::Borrowed("words"))?;
+    let borrowed: CowStr<'_> = deserialize_as(alloc, bytes.as_slice())?;
+    assert!(rt; borrowed.as_str() == "words" && bytes == serialize_as(alloc, &"words")?);
+    Ok(())
+}
+
+// The node and the value of an address with a port.
+fn with_port(alloc: Global, octets: u8) -> Result<(ShapeNode, Value), Error> {
+    let (node, value) = bytes_of(alloc, octets)?;
+    let nodes = vec![in alloc; node, ShapeNode::U16]?;
+    Ok((ShapeNode::Tuple(nodes), Value::Tuple(vec![in alloc; value, Value::U16(80)]?)))
+}
+
+// The node of either family, and a value of one of them.
+fn of_family(
+    alloc: Global,
+    index: u8,
+    four: (ShapeNode, Value),
+    six: (ShapeNode, Value),
+) -> Result<(ShapeNode, Value), Error> {
+    let nodes = vec![in alloc; four.0, six.0]?;
+    let inside = if index == 0 { four.1 } else { six.1 };
+    Ok((ShapeNode::Enum(nodes), Value::Enum(u32::from(index), Box::new(alloc, inside)?)))
+}
+
+#[test]
+fn addresses_come_back(rt: HostRuntime) -> Result<(), Error> {
+    let alloc = rt.alloc();
+    let four = Ipv4Addr::new(0, 1, 2, 3);
+    let six = Ipv6Addr::from_octets([0, 1, 2, 3, 4, 5, 6, 7, 8, 9, 10, 11, 12, 13, 14, 15]);
+    let (node, value) = bytes_of(alloc, 4)?;
+    assert!(rt; comes_back(alloc, &four, node, &value)?);
+    let (node, value) = bytes_of(alloc, 16)?;
+    assert!(rt; comes_back(alloc, &six, node, &value)?);
+    let (node, value) = of_family(alloc, 0, bytes_of(alloc, 4)?, bytes_of(alloc, 16)?)?;
+    assert!(rt; comes_back(alloc, &IpAddr::V4(four), node, &value)?);
+    let (node, value) = of_family(alloc, 1, bytes_of(alloc, 4)?, bytes_of(alloc, 16)?)?;
+    assert!(rt; comes_back(alloc, &IpAddr::V6(six), node, &value)?);
+    let four = SocketAddrV4::new(four, 80);
+    let six = SocketAddrV6::new(six, 80, 0, 0);
+    let (node, value) = with_port(alloc, 4)?;
+    assert!(rt; comes_back(alloc, &four, node, &value)?);
+    let (node, value) = with_port(alloc, 16)?;
+    assert!(rt; comes_back(alloc, &six, node, &value)?);
+    // the flow information and the scope are not written
+    let scoped = SocketAddrV6::new(*six.ip(), 80, 1, 2);
+    let (node, value) = with_port(alloc, 16)?;
+    assert!(rt; comes_back(alloc, &scoped, node, &value)?);
+    let bytes = serialize_as(alloc, &scoped)?;
+    let again: SocketAddrV6 = deserialize_as(alloc, bytes.as_slice())?;
+    assert!(rt; again == six);
+    let (node, value) = of_family(alloc, 0, with_port(alloc, 4)?, with_port(alloc, 16)?)?;
+    assert!(rt; comes_back(alloc, &SocketAddr::V4(four), node, &value)?);
+    let (node, value) = of_family(alloc, 1, with_port(alloc, 4)?, with_port(alloc, 16)?)?;
+    assert!(rt; comes_back(alloc, &SocketAddr::V6(six), node, &value)?);
+    Ok(())
+}
+
+#[test]
+fn orderings_and_markers_come_back(rt: HostRuntime) -> Result<(), Error> {
+    let alloc = rt.alloc();
+    let orders = [Ordering::Less, Ordering::Equal, Ordering::Greater];
+    for i in 0..3u8 {
+        let units = vec![in alloc; ShapeNode::Unit, ShapeNode::Unit, ShapeNode::Unit]?;
+        let value = Value::Enum(u32::from(i), Box::new(alloc, Value::Unit)?);
+        assert!(rt; comes_back(alloc, &orders[i as usize], ShapeNode::Enum(units), &value)?);
+    }
+    let marker: PhantomData<u8> = PhantomData;
+    assert!(rt; comes_back(alloc, &marker, ShapeNode::Unit, &Value::Unit)?);
     Ok(())
 }
 

@@ -137,6 +137,7 @@ fn read_parts<'a>(
 
 // The byte of a column of one length below 255, the bytes behind it, and that length, if the input begins with such a
 // column.
+#[inline(always)]
 fn single_short(bytes: &[u8], k: usize) -> Option<(&[u8], &[u8], usize)>
     ensures read { IfSome result
         (λ parts. ReadsParts k bytes.now parts.0.now [] parts.1.now) }
@@ -203,6 +204,7 @@ impl<'a> LengthDecoder<'a> {
 
     /// Reads `k` lengths as [`LengthDecoder::populate`] does. If `strict`, it returns whether the bytes of both parts
     /// are those that would be written for the lengths. Otherwise the returned bool has no meaning.
+    #[inline(always)]
     pub fn read(&mut self, input: &mut &'a [u8], k: usize, strict: bool) -> Result<bool, Error>
         ensures read { OnOk result
             (Reads (SpellsLengths None) k input.old.now (lengths_left self.new) input.new.now) }

@@ -1,13 +1,14 @@
 //! The decoder of texts.
 ghost use Rattle.std.specs.Prelude.{◌≡◌, ℕ, ◌+◌, ◌<◌, ◌≤◌, List, [], ◌∷◌, ◌++◌, None, true, false, refl, length};
-ghost use Rattle.std.specs.Prelude.{drop, map, sum, vec_len, vec_capacity, All, IsUtf8, MatchBool, IsTrue, IfOk, OnOk};
-ghost use Rattle.std.specs.Prelude.{IfErr, OnErr};
+ghost use Rattle.std.specs.Prelude.{drop, map, sum, vec_len, vec_capacity, All, IsUtf8, MatchBool, IsTrue, IfSome};
+ghost use Rattle.std.specs.Prelude.{IfOk, OnOk, IfErr, OnErr};
 ghost use Rattle.std.specs.Str.{IsAscii, IsCharBoundary};
 ghost use Rattle.std.proofs.Props.{props};
 ghost use Rattle.bitcode_memory.specs.Fast.{slice_rest};
 ghost use Rattle.bitcode_columns.specs.Reading.{Reads, IsEndOf};
 ghost use Rattle.bitcode_shapes.specs.Datum.{text};
 ghost use Rattle.bitcode_shapes.specs.Shape.{text_shape};
+ghost use Rattle.bitcode_coder.specs.Coder.{ReadsValue, ReadsValues};
 ghost use Rattle.bitcode_coder.specs.Cutting.{cut};
 ghost use Rattle.bitcode_coder.specs.JoinedTexts.{ends_from};
 ghost use Rattle.bitcode_coder.specs.Length.{short_left, large_left, lengths_left, lengths_owned};
@@ -23,6 +24,7 @@ use bitcode_memory::consume::consume_bytes;
 use bitcode_memory::error::{Error, Reason};
 use bitcode_memory::fast::{FastSlice, NextUnchecked};
 use bitcode_memory::refuse::err;
+use bitcode_shapes::shaped::Shaped;
 use std::alloc::Global;
 use std::borrow::CowStr;
 use std::boxed::BoxedStr;
@@ -144,6 +146,7 @@ fn are_texts(bytes: &[u8], lengths: &LengthDecoder<'_>) -> bool
 
 impl<'a> StrDecoder<'a> {
     // Reads a column, all checks included. Where `strict`, the answer is whether its bytes are its text.
+    #[inline(always)]
     pub(super) fn read_column(
         &mut self,
         input: &mut &'a [u8],
@@ -224,6 +227,7 @@ impl<'a> View<'a> for StrDecoder<'a> {
         }
     }
 
+    #[inline(always)]
     fn read(&mut self, input: &mut &'a [u8], k: usize, strict: bool) -> Result<bool, Error> {
         self.read_column(input, k, strict)
     }
@@ -260,6 +264,50 @@ impl<'a> Decoder<String> for StrDecoder<'a> {
     fn decode(&mut self) -> Result<String, Error> {
         let text = self.take_text();
         Ok(String::from_str(self.alloc, text)?)
+    }
+
+    fn reads_one() -> bool {
+        true
+    }
+
+    #[inline(always)]
+    fn read_one(alloc: Global, input: &mut &[u8]) -> Option<String>
+        ensures { IfSome result
+            (λ t. ReadsValue ⟦<String as Shaped>⟧.data.makes (text_shape None) input.old.now t
+            input.new.now) }
+    {
+        let mut column = StrDecoder::new(alloc);
+        let Ok(_) = column.read(input, 1, false) else {
+            return None;
+        };
+        let first: Result<String, Error> = column.decode();
+        let Ok(first) = first else {
+            return None;
+        };
+        Some(first)
+    }
+
+    fn reads_lists() -> bool {
+        true
+    }
+
+    fn read_list(alloc: Global, input: &mut &[u8], count: usize) -> Option<Vec<String>>
+        ensures { IfSome result
+            (λ items. ReadsValues ⟦<String as Shaped>⟧.data.makes (text_shape None) count
+            input.old.now items.items
+            input.new.now) }
+    {
+        let mut column = StrDecoder::new(alloc);
+        let Ok(_) = column.read(input, count, false) else {
+            return None;
+        };
+        // Nothing else refers to the moved decoder, so its positions can stay in registers.
+        let mut unshared = column;
+        let items: Result<Vec<String>, Error> = unshared.decode_many(alloc, count);
+        let Ok(items) = items else {
+            return None;
+        };
+        Some(items)
     }
 
     ghost same_shape = { refl };

@@ -79,5 +79,14 @@ impl<'a, const N: usize> Decoder<ArrayString<N>> for ArrayStringDecoder<'a, N> {
         }
     }
 
+    // Written here, since the value's size depends on `N`, which the toolchain does not allow for the trait's own.
+    fn reads_one() -> bool {
+        false
+    }
+
+    fn reads_lists() -> bool {
+        false
+    }
+
     ghost same_shape = { refl };
 }

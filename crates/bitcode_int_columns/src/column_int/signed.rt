@@ -42,6 +42,7 @@ impl ColumnInt for i8 {
         Ok(true)
     }
 
+    #[inline(always)]
     fn unpack<'a>(
         alloc: Global,
         input: &mut &'a [u8],
@@ -83,6 +84,7 @@ impl ColumnInt for i16 {
         Ok(true)
     }
 
+    #[inline(always)]
     fn unpack<'a>(
         alloc: Global,
         input: &mut &'a [u8],
@@ -124,6 +126,7 @@ impl ColumnInt for i32 {
         Ok(true)
     }
 
+    #[inline(always)]
     fn unpack<'a>(
         alloc: Global,
         input: &mut &'a [u8],
@@ -165,6 +168,7 @@ impl ColumnInt for i64 {
         Ok(true)
     }
 
+    #[inline(always)]
     fn unpack<'a>(
         alloc: Global,
         input: &mut &'a [u8],
@@ -206,6 +210,7 @@ impl ColumnInt for i128 {
         Ok(true)
     }
 
+    #[inline(always)]
     fn unpack<'a>(
         alloc: Global,
         input: &mut &'a [u8],
@@ -247,6 +252,7 @@ impl ColumnInt for isize {
         Ok(true)
     }
 
+    #[inline(always)]
     fn unpack<'a>(
         alloc: Global,
         input: &mut &'a [u8],

@@ -42,6 +42,7 @@ impl ColumnInt for u8 {
         Ok(true)
     }
 
+    #[inline(always)]
     fn unpack<'a>(
         alloc: Global,
         input: &mut &'a [u8],
@@ -83,6 +84,7 @@ impl ColumnInt for u16 {
         Ok(true)
     }
 
+    #[inline(always)]
     fn unpack<'a>(
         alloc: Global,
         input: &mut &'a [u8],
@@ -124,6 +126,7 @@ impl ColumnInt for u32 {
         Ok(true)
     }
 
+    #[inline(always)]
     fn unpack<'a>(
         alloc: Global,
         input: &mut &'a [u8],
@@ -165,6 +168,7 @@ impl ColumnInt for u64 {
         Ok(true)
     }
 
+    #[inline(always)]
     fn unpack<'a>(
         alloc: Global,
         input: &mut &'a [u8],
@@ -206,6 +210,7 @@ impl ColumnInt for u128 {
         Ok(true)
     }
 
+    #[inline(always)]
     fn unpack<'a>(
         alloc: Global,
         input: &mut &'a [u8],
@@ -247,6 +252,7 @@ impl ColumnInt for usize {
         Ok(true)
     }
 
+    #[inline(always)]
     fn unpack<'a>(
         alloc: Global,
         input: &mut &'a [u8],

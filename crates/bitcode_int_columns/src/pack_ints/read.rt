@@ -151,6 +151,8 @@ fn read_narrow<'a, T: Int>(
     }
 }
 
+// The functions below are inlined, so that a caller that reads one integer pays for no other case.
+
 // How the narrow numbers of a column follow its tag.
 struct Header<T: Int> {
     // in bytes
@@ -159,6 +161,7 @@ struct Header<T: Int> {
 }
 
 // Reads the tag of a column of more than one byte, and the least entry where the tag says that there is one.
+#[inline(always)]
 fn read_header<T: Int>(input: &mut &[u8]) -> Result<Header<T>, Error>
     requires { 2 ≤ T.width }
     ensures read { IfOk result
@@ -190,6 +193,7 @@ fn read_header<T: Int>(input: &mut &[u8]) -> Result<Header<T>, Error>
 }
 
 // Lets `out` go on with entries that stand as they are at the front of the input.
+#[inline(always)]
 fn borrow_entries<'a, T: Int>(
     input: &mut &'a [u8],
     count: usize,
@@ -208,6 +212,7 @@ fn borrow_entries<'a, T: Int>(
 }
 
 // The first byte of the input is the tag of entries that stand as they are.
+#[inline(always)]
 fn has_raw_tag(input: &[u8]) -> bool
     ensures { result ≡ has_raw_tag input.now }
 {
@@ -218,6 +223,7 @@ fn has_raw_tag(input: &[u8]) -> bool
 }
 
 // Reads a column of integers of more than one byte that begins with a tag.
+#[inline(always)]
 fn read_tagged<'a, T: Int>(
     alloc: Global,
     input: &mut &'a [u8],
@@ -274,6 +280,7 @@ fn read_column<'a, T: Int>(
 }
 
 // Reads a column by its form.
+#[inline(always)]
 fn read_ints<'a, T: Int>(
     alloc: Global,
     input: &mut &'a [u8],
@@ -304,6 +311,7 @@ fn read_ints<'a, T: Int>(
 ///
 /// From `[1, 255, 255, 10, 85]`, seven `i16` are the bytes of 0, -1, 0, -1, 0, -1 and 0. If bytes are missing, the
 /// error is `EOF`; for an unknown tag `invalid packing`; if an allocation fails, `out of memory`.
+#[inline(always)]
 pub fn unpack_ints<'a, T: Int>(
     alloc: Global,
     input: &mut &'a [u8],

@@ -109,5 +109,14 @@ impl<'a, const N: usize, const C_STYLE: bool, T: BareShaped<N>> Decoder<T>
         Ok(T::from_index(self.decode()))
     }
 
+    // Written here, since the value's size depends on `N`, which the toolchain does not allow for the trait's own.
+    fn reads_one() -> bool {
+        false
+    }
+
+    fn reads_lists() -> bool {
+        false
+    }
+
     ghost same_shape = { sym T.has_shape };
 }

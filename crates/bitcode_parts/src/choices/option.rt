@@ -1,6 +1,7 @@
 //! The coders of options.
-ghost use Rattle.std.specs.Prelude.{◌+◌, refl, false, [], ◌∷◌};
+ghost use Rattle.std.specs.Prelude.{◌+◌, refl, false, [], ◌∷◌, IfSome};
 ghost use Rattle.bitcode_shapes.specs.Shape.{choice_shape, shape_and, no_shapes, unit_shape};
+ghost use Rattle.bitcode_coder.specs.Coder.{ReadsValue};
 ghost use Rattle.bitcode_coder.specs.Columns.{no_columns, two};
 ghost use Rattle.bitcode_parts.specs.Payloads.{choices_of};
 ghost use Rattle.bitcode_parts.specs.TwoVariantLaws.{same_two_variants, two_variants_form};
@@ -16,6 +17,7 @@ use bitcode_coder::coder::{
 use bitcode_coder::column_free::ColumnFree;
 use bitcode_coder::one::write_one;
 use bitcode_coder::part::Part;
+use bitcode_memory::consume::consume_byte;
 use bitcode_memory::error::Error;
 use bitcode_shapes::shaped::Shaped;
 use std::alloc::Global;
@@ -180,6 +182,26 @@ impl<'a, T: Shaped, D: Decoder<T>> Decoder<Option<T>> for OptionDecoder<'a, D> {
             Ok(None)
         } else {
             Ok(Some(self.some.decode()?))
+        }
+    }
+
+    fn reads_one() -> bool {
+        D::reads_one()
+    }
+
+    #[inline(always)]
+    fn read_one(alloc: Global, input: &mut &[u8]) -> Option<Option<T>>
+        ensures { IfSome result
+            (λ t. ReadsValue ⟦<Option<T> as Shaped>⟧.data.makes
+            ⟦<OptionDecoder<'a, D> as HoldsData>⟧.shape input.old.now t input.new.now) }
+    {
+        let Ok(byte) = consume_byte(input) else {
+            return None;
+        };
+        if byte % 2 == 0 {
+            Some(None)
+        } else {
+            Some(Some(D::read_one(alloc, input)?))
         }
     }
 

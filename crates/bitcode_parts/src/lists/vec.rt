@@ -2,12 +2,12 @@
 #![tactic(auto, unfolding(bitcode_coder::specs::Length::lengths_left, bitcode_coder::specs::Length::lengths_sum))]
 
 ghost use Rattle.std.specs.Prelude.{◌≡◌, ◌+◌, ◌*◌, ◌<◌, ◌≤◌, [], None, length, map, take, false, IfOk, OnOk, IfErr};
-ghost use Rattle.std.specs.Prelude.{IsTrue, OnErr};
+ghost use Rattle.std.specs.Prelude.{IsTrue, IfSome, OnErr};
 ghost use Rattle.std.proofs.Common.{sym, ap, ◌∙◌};
 ghost use Rattle.bitcode_columns.specs.Reading.{Reads, IsEndOf};
 ghost use Rattle.bitcode_shapes.specs.Shape.{seq_shape};
 ghost use Rattle.bitcode_coder.specs.Coder.{JoinsEach, OverflowsWithEach, IsWritingRefusal, TakesDatum};
-ghost use Rattle.bitcode_coder.specs.Coder.{IsReadingRefusal};
+ghost use Rattle.bitcode_coder.specs.Coder.{IsReadingRefusal, ReadsValue};
 ghost use Rattle.bitcode_coder.specs.Spelling.{Spells};
 ghost use Rattle.bitcode_coder.specs.Strict.{JudgesData};
 ghost use Rattle.bitcode_coder.specs.Transposition.{joined};
@@ -371,6 +371,23 @@ impl<'a, T: Shaped + Drop, D: Decoder<T>> Decoder<Vec<T>> for VecDecoder<'a, D> 
 
     fn decode(&mut self) -> Result<Vec<T>, Error> {
         self.decode_as()
+    }
+
+    fn reads_one() -> bool {
+        D::reads_lists()
+    }
+
+    #[inline(always)]
+    fn read_one(alloc: Global, input: &mut &[u8]) -> Option<Vec<T>>
+        ensures { IfSome result
+            (λ t. ReadsValue ⟦<Vec<T> as Shaped>⟧.data.makes (seq_shape None D.shape) input.old.now
+            t input.new.now) }
+    {
+        let mut lengths = LengthDecoder::new(alloc);
+        let Ok(_) = lengths.read(input, 1, false) else {
+            return None;
+        };
+        D::read_list(alloc, input, lengths.length())
     }
 
     ghost same_shape = { ap (seq_shape None) D.same_shape };

@@ -7,6 +7,7 @@ use crate::decoder::TupleDecoder;
 use bitcode_coder::coder::Decoder;
 use bitcode_memory::error::Error;
 use bitcode_shapes::shaped::Shaped;
+use std::alloc::Global;
 
 impl<T1: Shaped + Drop, T2: Shaped, T3: Shaped, A: Decoder<T1>, B: Decoder<(T2, T3)>> Decoder<
     (T1, T2, T3),
@@ -17,6 +18,16 @@ impl<T1: Shaped + Drop, T2: Shaped, T3: Shaped, A: Decoder<T1>, B: Decoder<(T2, 
     fn decode(&mut self) -> Result<(T1, T2, T3), Error> {
         let (t1, (t2, t3)) = Decoder::<(T1, (T2, T3))>::decode(self)?;
         Ok((t1, t2, t3))
+    }
+
+    fn reads_one() -> bool {
+        <Self as Decoder<(T1, (T2, T3))>>::reads_one()
+    }
+
+    #[inline(always)]
+    fn read_one(alloc: Global, input: &mut &[u8]) -> Option<(T1, T2, T3)> {
+        let (t1, (t2, t3)) = <Self as Decoder<(T1, (T2, T3))>>::read_one(alloc, input)?;
+        Some((t1, t2, t3))
     }
 
     ghost same_shape = { same_pair_shape A.same_shape B.same_shape };
@@ -36,6 +47,16 @@ impl<
     fn decode(&mut self) -> Result<(T1, T2, T3, T4), Error> {
         let ((t1, t2), (t3, t4)) = Decoder::<((T1, T2), (T3, T4))>::decode(self)?;
         Ok((t1, t2, t3, t4))
+    }
+
+    fn reads_one() -> bool {
+        <Self as Decoder<((T1, T2), (T3, T4))>>::reads_one()
+    }
+
+    #[inline(always)]
+    fn read_one(alloc: Global, input: &mut &[u8]) -> Option<(T1, T2, T3, T4)> {
+        let ((t1, t2), (t3, t4)) = <Self as Decoder<((T1, T2), (T3, T4))>>::read_one(alloc, input)?;
+        Some((t1, t2, t3, t4))
     }
 
     ghost same_shape = { same_pair_shape A.same_shape B.same_shape };
@@ -58,6 +79,18 @@ impl<
         Ok((t1, t2, t3, t4, t5))
     }
 
+    fn reads_one() -> bool {
+        <Self as Decoder<((T1, T2), (T3, T4, T5))>>::reads_one()
+    }
+
+    #[inline(always)]
+    fn read_one(alloc: Global, input: &mut &[u8]) -> Option<(T1, T2, T3, T4, T5)> {
+        let ((t1, t2), (t3, t4, t5)) = <Self as Decoder<((T1, T2), (T3, T4, T5))>>::read_one(
+            alloc, input,
+        )?;
+        Some((t1, t2, t3, t4, t5))
+    }
+
     ghost same_shape = { same_pair_shape A.same_shape B.same_shape };
 }
 
@@ -77,6 +110,18 @@ impl<
     fn decode(&mut self) -> Result<(T1, T2, T3, T4, T5, T6), Error> {
         let ((t1, t2, t3), (t4, t5, t6)) = Decoder::<((T1, T2, T3), (T4, T5, T6))>::decode(self)?;
         Ok((t1, t2, t3, t4, t5, t6))
+    }
+
+    fn reads_one() -> bool {
+        <Self as Decoder<((T1, T2, T3), (T4, T5, T6))>>::reads_one()
+    }
+
+    #[inline(always)]
+    fn read_one(alloc: Global, input: &mut &[u8]) -> Option<(T1, T2, T3, T4, T5, T6)> {
+        let ((t1, t2, t3), (t4, t5, t6)) = <Self as Decoder<
+            ((T1, T2, T3), (T4, T5, T6)),
+        >>::read_one(alloc, input)?;
+        Some((t1, t2, t3, t4, t5, t6))
     }
 
     ghost same_shape = { same_pair_shape A.same_shape B.same_shape };
@@ -103,6 +148,18 @@ impl<
         Ok((t1, t2, t3, t4, t5, t6, t7))
     }
 
+    fn reads_one() -> bool {
+        <Self as Decoder<((T1, T2, T3), (T4, T5, T6, T7))>>::reads_one()
+    }
+
+    #[inline(always)]
+    fn read_one(alloc: Global, input: &mut &[u8]) -> Option<(T1, T2, T3, T4, T5, T6, T7)> {
+        let ((t1, t2, t3), (t4, t5, t6, t7)) = <Self as Decoder<
+            ((T1, T2, T3), (T4, T5, T6, T7)),
+        >>::read_one(alloc, input)?;
+        Some((t1, t2, t3, t4, t5, t6, t7))
+    }
+
     ghost same_shape = { same_pair_shape A.same_shape B.same_shape };
 }
 
@@ -126,6 +183,18 @@ impl<
             ((T1, T2, T3, T4), (T5, T6, T7, T8)),
         >::decode(self)?;
         Ok((t1, t2, t3, t4, t5, t6, t7, t8))
+    }
+
+    fn reads_one() -> bool {
+        <Self as Decoder<((T1, T2, T3, T4), (T5, T6, T7, T8))>>::reads_one()
+    }
+
+    #[inline(always)]
+    fn read_one(alloc: Global, input: &mut &[u8]) -> Option<(T1, T2, T3, T4, T5, T6, T7, T8)> {
+        let ((t1, t2, t3, t4), (t5, t6, t7, t8)) = <Self as Decoder<
+            ((T1, T2, T3, T4), (T5, T6, T7, T8)),
+        >>::read_one(alloc, input)?;
+        Some((t1, t2, t3, t4, t5, t6, t7, t8))
     }
 
     ghost same_shape = { same_pair_shape A.same_shape B.same_shape };

@@ -7,6 +7,7 @@ use crate::decoder::TupleDecoder;
 use bitcode_coder::coder::Decoder;
 use bitcode_memory::error::Error;
 use bitcode_shapes::shaped::Shaped;
+use std::alloc::Global;
 
 impl<
     T1: Shaped + Drop,
@@ -29,6 +30,18 @@ impl<
             ((T1, T2, T3, T4), (T5, T6, T7, T8, T9)),
         >::decode(self)?;
         Ok((t1, t2, t3, t4, t5, t6, t7, t8, t9))
+    }
+
+    fn reads_one() -> bool {
+        <Self as Decoder<((T1, T2, T3, T4), (T5, T6, T7, T8, T9))>>::reads_one()
+    }
+
+    #[inline(always)]
+    fn read_one(alloc: Global, input: &mut &[u8]) -> Option<(T1, T2, T3, T4, T5, T6, T7, T8, T9)> {
+        let ((t1, t2, t3, t4), (t5, t6, t7, t8, t9)) = <Self as Decoder<
+            ((T1, T2, T3, T4), (T5, T6, T7, T8, T9)),
+        >>::read_one(alloc, input)?;
+        Some((t1, t2, t3, t4, t5, t6, t7, t8, t9))
     }
 
     ghost same_shape = { same_pair_shape A.same_shape B.same_shape };
@@ -56,6 +69,21 @@ impl<
             ((T1, T2, T3, T4, T5), (T6, T7, T8, T9, T10)),
         >::decode(self)?;
         Ok((t1, t2, t3, t4, t5, t6, t7, t8, t9, t10))
+    }
+
+    fn reads_one() -> bool {
+        <Self as Decoder<((T1, T2, T3, T4, T5), (T6, T7, T8, T9, T10))>>::reads_one()
+    }
+
+    #[inline(always)]
+    fn read_one(
+        alloc: Global,
+        input: &mut &[u8],
+    ) -> Option<(T1, T2, T3, T4, T5, T6, T7, T8, T9, T10)> {
+        let ((t1, t2, t3, t4, t5), (t6, t7, t8, t9, t10)) = <Self as Decoder<
+            ((T1, T2, T3, T4, T5), (T6, T7, T8, T9, T10)),
+        >>::read_one(alloc, input)?;
+        Some((t1, t2, t3, t4, t5, t6, t7, t8, t9, t10))
     }
 
     ghost same_shape = { same_pair_shape A.same_shape B.same_shape };
@@ -86,6 +114,21 @@ impl<
         Ok((t1, t2, t3, t4, t5, t6, t7, t8, t9, t10, t11))
     }
 
+    fn reads_one() -> bool {
+        <Self as Decoder<((T1, T2, T3, T4, T5), (T6, T7, T8, T9, T10, T11))>>::reads_one()
+    }
+
+    #[inline(always)]
+    fn read_one(
+        alloc: Global,
+        input: &mut &[u8],
+    ) -> Option<(T1, T2, T3, T4, T5, T6, T7, T8, T9, T10, T11)> {
+        let ((t1, t2, t3, t4, t5), (t6, t7, t8, t9, t10, t11)) = <Self as Decoder<
+            ((T1, T2, T3, T4, T5), (T6, T7, T8, T9, T10, T11)),
+        >>::read_one(alloc, input)?;
+        Some((t1, t2, t3, t4, t5, t6, t7, t8, t9, t10, t11))
+    }
+
     ghost same_shape = { same_pair_shape A.same_shape B.same_shape };
 }
 
@@ -113,6 +156,21 @@ impl<
             ((T1, T2, T3, T4, T5, T6), (T7, T8, T9, T10, T11, T12)),
         >::decode(self)?;
         Ok((t1, t2, t3, t4, t5, t6, t7, t8, t9, t10, t11, t12))
+    }
+
+    fn reads_one() -> bool {
+        <Self as Decoder<((T1, T2, T3, T4, T5, T6), (T7, T8, T9, T10, T11, T12))>>::reads_one()
+    }
+
+    #[inline(always)]
+    fn read_one(
+        alloc: Global,
+        input: &mut &[u8],
+    ) -> Option<(T1, T2, T3, T4, T5, T6, T7, T8, T9, T10, T11, T12)> {
+        let ((t1, t2, t3, t4, t5, t6), (t7, t8, t9, t10, t11, t12)) = <Self as Decoder<
+            ((T1, T2, T3, T4, T5, T6), (T7, T8, T9, T10, T11, T12)),
+        >>::read_one(alloc, input)?;
+        Some((t1, t2, t3, t4, t5, t6, t7, t8, t9, t10, t11, t12))
     }
 
     ghost same_shape = { same_pair_shape A.same_shape B.same_shape };
@@ -145,6 +203,21 @@ impl<
             ((T1, T2, T3, T4, T5, T6), (T7, T8, T9, T10, T11, T12, T13)),
         >::decode(self)?;
         Ok((t1, t2, t3, t4, t5, t6, t7, t8, t9, t10, t11, t12, t13))
+    }
+
+    fn reads_one() -> bool {
+        <Self as Decoder<((T1, T2, T3, T4, T5, T6), (T7, T8, T9, T10, T11, T12, T13))>>::reads_one()
+    }
+
+    #[inline(always)]
+    fn read_one(
+        alloc: Global,
+        input: &mut &[u8],
+    ) -> Option<(T1, T2, T3, T4, T5, T6, T7, T8, T9, T10, T11, T12, T13)> {
+        let ((t1, t2, t3, t4, t5, t6), (t7, t8, t9, t10, t11, t12, t13)) = <Self as Decoder<
+            ((T1, T2, T3, T4, T5, T6), (T7, T8, T9, T10, T11, T12, T13)),
+        >>::read_one(alloc, input)?;
+        Some((t1, t2, t3, t4, t5, t6, t7, t8, t9, t10, t11, t12, t13))
     }
 
     ghost same_shape = { same_pair_shape A.same_shape B.same_shape };
@@ -181,6 +254,29 @@ impl<
             ),
         >::decode(self)?;
         Ok((t1, t2, t3, t4, t5, t6, t7, t8, t9, t10, t11, t12, t13, t14))
+    }
+
+    fn reads_one() -> bool {
+        <Self as Decoder<
+            (
+                (T1, T2, T3, T4, T5, T6, T7),
+                (T8, T9, T10, T11, T12, T13, T14),
+            ),
+        >>::reads_one()
+    }
+
+    #[inline(always)]
+    fn read_one(
+        alloc: Global,
+        input: &mut &[u8],
+    ) -> Option<(T1, T2, T3, T4, T5, T6, T7, T8, T9, T10, T11, T12, T13, T14)> {
+        let ((t1, t2, t3, t4, t5, t6, t7), (t8, t9, t10, t11, t12, t13, t14)) = <Self as Decoder<
+            (
+                (T1, T2, T3, T4, T5, T6, T7),
+                (T8, T9, T10, T11, T12, T13, T14),
+            ),
+        >>::read_one(alloc, input)?;
+        Some((t1, t2, t3, t4, t5, t6, t7, t8, t9, t10, t11, t12, t13, t14))
     }
 
     ghost same_shape = { same_pair_shape A.same_shape B.same_shape };
@@ -255,6 +351,50 @@ impl<
             ),
         >::decode(self)?;
         Ok((
+            t1, t2, t3, t4, t5, t6, t7, t8, t9, t10, t11, t12, t13, t14, t15,
+        ))
+    }
+
+    fn reads_one() -> bool {
+        <Self as Decoder<
+            (
+                (T1, T2, T3, T4, T5, T6, T7),
+                (T8, T9, T10, T11, T12, T13, T14, T15),
+            ),
+        >>::reads_one()
+    }
+
+    #[inline(always)]
+    fn read_one(
+        alloc: Global,
+        input: &mut &[u8],
+    ) -> Option<
+        (
+            T1,
+            T2,
+            T3,
+            T4,
+            T5,
+            T6,
+            T7,
+            T8,
+            T9,
+            T10,
+            T11,
+            T12,
+            T13,
+            T14,
+            T15,
+        ),
+    > {
+        let ((t1, t2, t3, t4, t5, t6, t7), (t8, t9, t10, t11, t12, t13, t14, t15)) =
+            <Self as Decoder<
+                (
+                    (T1, T2, T3, T4, T5, T6, T7),
+                    (T8, T9, T10, T11, T12, T13, T14, T15),
+                ),
+            >>::read_one(alloc, input)?;
+        Some((
             t1, t2, t3, t4, t5, t6, t7, t8, t9, t10, t11, t12, t13, t14, t15,
         ))
     }
@@ -334,6 +474,51 @@ impl<
             ),
         >::decode(self)?;
         Ok((
+            t1, t2, t3, t4, t5, t6, t7, t8, t9, t10, t11, t12, t13, t14, t15, t16,
+        ))
+    }
+
+    fn reads_one() -> bool {
+        <Self as Decoder<
+            (
+                (T1, T2, T3, T4, T5, T6, T7, T8),
+                (T9, T10, T11, T12, T13, T14, T15, T16),
+            ),
+        >>::reads_one()
+    }
+
+    #[inline(always)]
+    fn read_one(
+        alloc: Global,
+        input: &mut &[u8],
+    ) -> Option<
+        (
+            T1,
+            T2,
+            T3,
+            T4,
+            T5,
+            T6,
+            T7,
+            T8,
+            T9,
+            T10,
+            T11,
+            T12,
+            T13,
+            T14,
+            T15,
+            T16,
+        ),
+    > {
+        let ((t1, t2, t3, t4, t5, t6, t7, t8), (t9, t10, t11, t12, t13, t14, t15, t16)) =
+            <Self as Decoder<
+                (
+                    (T1, T2, T3, T4, T5, T6, T7, T8),
+                    (T9, T10, T11, T12, T13, T14, T15, T16),
+                ),
+            >>::read_one(alloc, input)?;
+        Some((
             t1, t2, t3, t4, t5, t6, t7, t8, t9, t10, t11, t12, t13, t14, t15, t16,
         ))
     }

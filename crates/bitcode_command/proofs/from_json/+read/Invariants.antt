@@ -8,9 +8,6 @@ decreases-read l = 3 * l.left
 abbrev pub decreases-read_items : goal.decreases-read_items
 decreases-read_items l = 3 * l.left + 1
 
-abbrev pub decreases-read_tuple : goal.decreases-read_tuple
-decreases-read_tuple l = 3 * l.left + 1
-
 abbrev pub decreases-read_struct : goal.decreases-read_struct
 decreases-read_struct l = 3 * l.left + 1
 

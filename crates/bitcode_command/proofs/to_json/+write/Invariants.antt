@@ -8,9 +8,6 @@ decreases-write l = 3 * l.room.left
 abbrev pub decreases-write_items : goal.decreases-write_items
 decreases-write_items l = 3 * l.room.left + 1
 
-abbrev pub decreases-write_tuple : goal.decreases-write_tuple
-decreases-write_tuple l = 3 * l.room.left + 1
-
 abbrev pub decreases-write_struct : goal.decreases-write_struct
 decreases-write_struct l = 3 * l.room.left + 1
 

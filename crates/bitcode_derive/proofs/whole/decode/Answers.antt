@@ -6,6 +6,12 @@ use Rattle.bitcode_derive.proofs.DecodingLemmas.{spells_at_most_one, bounded_by_
 use Rattle.bitcode_derive.specs.Whole.{in_columns, bytes_left}
 use Rattle.bitcode_derive.proofs.whole.decode.Goals as goal
 
+pub returns-in-Some-clause-unambiguous : goal.returns-in-Some-clause-unambiguous
+returns-in-Some-clause-unambiguous g c = spells_at_most_one g.T.Shaped.data.shape c.args.bytes.now
+
+pub returns-in-Some-clause-bounded : goal.returns-in-Some-clause-bounded
+returns-in-Some-clause-bounded g c = bounded_by_bytes g.T.Shaped.data.shape c.args.bytes.now g.T.Shaped.data.lawful.sound
+
 pub returns-in_err-populate-clause-unambiguous : goal.returns-in_err-populate-clause-unambiguous
 returns-in_err-populate-clause-unambiguous g c = spells_at_most_one g.T.Shaped.data.shape c.args.bytes.now
 

@@ -5,6 +5,12 @@ use Rattle.bitcode_derive.specs.Front.{in_front_columns}
 use Rattle.bitcode_derive.proofs.FrontLemmas.{begins_with_at_most_one, bounded_by_front, none_begun-unread, making_front_named}
 use Rattle.bitcode_derive.proofs.whole.decode_front.Goals as goal
 
+pub returns-in-Some-clause-unambiguous : goal.returns-in-Some-clause-unambiguous
+returns-in-Some-clause-unambiguous g c = begins_with_at_most_one g.T.Shaped.data.shape c.args.input.now.now
+
+pub returns-in-Some-clause-bounded : goal.returns-in-Some-clause-bounded
+returns-in-Some-clause-bounded g c = bounded_by_front g.T.Shaped.data.shape c.args.input.now.now g.T.Shaped.data.lawful.sound
+
 pub returns-in_err-populate-clause-unambiguous : goal.returns-in_err-populate-clause-unambiguous
 returns-in_err-populate-clause-unambiguous g c = begins_with_at_most_one g.T.Shaped.data.shape c.args.input.now.now
 

@@ -1,10 +1,8 @@
 -- Written by `scripts/second_format`.
 use Rattle.std.proofs.Common.{◌*◌, ◌+◌}
 use Rattle.std.proofs.Common.{string_bytes}
-use Rattle.bitcode_shapes.specs.Datum.{text}
-use Rattle.bitcode_untyped.specs.ShapeTree.{text_tree}
-use Rattle.bitcode_serde_types.proofs.KeptLemmas.{ElementsKept}
-use Rattle.bitcode_serde_types.proofs.PairLemmas.{PairsKept}
+use Rattle.bitcode_serde_types.specs.Written.{text, text_tree}
+use Rattle.bitcode_serde_types.proofs.StepsRead.{PairsKept, ItemsKept}
 use Rattle.bitcode_recursive_types.specs.ExprShape.{expr_tree, expr_datum}
 use Rattle.bitcode_recursive_types.proofs.expr.+expr.Given as goal
 
@@ -20,12 +18,9 @@ decreases-read_expr_call l = 3 * l.left + 2
 abbrev pub decreases-read_expr_bind : goal.decreases-read_expr_bind
 decreases-read_expr_bind l = 3 * l.left + 2
 
-abbrev pub decreases-read_expr_list : goal.decreases-read_expr_list
-decreases-read_expr_list l = 3 * l.left + 1
-
-abbrev pub invariant-read_expr_list-loop-i : goal.invariant-read_expr_list-loop-i
-invariant-read_expr_list-loop-i l =
-    ElementsKept expr_datum (expr_tree l.left) l.found.place l.initial.reader l.initial.budget l._i l.items.items l.reader l.budget
+abbrev pub invariant-read_expr_call-loop-i : goal.invariant-read_expr_call-loop-i
+invariant-read_expr_call-loop-i l =
+    ItemsKept expr_datum (expr_tree l.left) l.found1.place l.initial.reader l.initial.budget l._i l.field1.items l.reader l.budget
 
 abbrev pub decreases-read_expr_by_string : goal.decreases-read_expr_by_string
 decreases-read_expr_by_string l = 3 * l.left + 1

@@ -5,7 +5,7 @@ use Rattle.bitcode_serde.specs.Places.{places, place_at}
 use Rattle.bitcode_serde.specs.ReadingValues.{IsFieldRefusalAt}
 use Rattle.bitcode_serde.proofs.ColumnLemmas.{passed_on}
 use Rattle.bitcode_serde.proofs.FieldLemmas.{field_inside, field_inside_refused}
-use Rattle.bitcode_serde.proofs.ValueLemmas.{continues_on}
+use Rattle.bitcode_serde.proofs.ValueLemmas.{continues_on, still_there}
 use Rattle.bitcode_serde_types.proofs.entering.read_field.Goals as goal
 
 pub read-requires : goal.read-requires
@@ -26,6 +26,14 @@ returns-in_err-value-clause-refused g c =
 pub returns-clause-continues : goal.returns-clause-continues
 returns-clause-continues g c =
     continues_on c.args.reader.now c.field.new.self c.read.new.reader c.in_ok-inside.ensures.continues c.in_ok-value.ensures.continues
+
+pub returns-clause-there : goal.returns-clause-there
+returns-clause-there g c =
+    still_there c.args.reader.now c.read.new.reader c.args.place
+    (continues_on c.args.reader.now c.field.new.self c.read.new.reader c.in_ok-inside.ensures.continues c.in_ok-value.ensures.continues) c.requires.place
+
+pub returns-clause-steady : goal.returns-clause-steady
+returns-clause-steady g c = c.in_ok-value.ensures.continues.steady
 
 pub returns-clause-read : goal.returns-clause-read
 returns-clause-read g c =

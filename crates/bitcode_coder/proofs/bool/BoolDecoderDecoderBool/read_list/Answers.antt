@@ -1,0 +1,6 @@
+-- The list is made of what was read.
+use Rattle.bitcode_coder.proofs.DirectLemmas.{each_read}
+use Rattle.bitcode_coder.proofs.bool.BoolDecoderDecoderBool.read_list.Goals as goal
+
+pub returns : goal.returns
+returns c = each_read _ _ c.args.count c.in-Ok.ensures.read c.in-Ok-items.ensures.made
