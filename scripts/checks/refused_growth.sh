@@ -31,7 +31,7 @@ tests=$work/crates/refused_growth/src/tests.rt
 {
   echo "use crate::no_memory::{answer, lengths_in_room, push_in_room};"
   echo "use crate::{must, prepare, references, rows, take};"
-  for group in rows:886 references:580; do
+  for group in rows:890 references:580; do
     name=${group%:*}
     last=${group#*:}
     for place in $(seq 1 "$last"); do
