@@ -2,4 +2,5 @@ pub mod CommentShape
 pub mod DirectoryShape
 pub mod ExprShape
 pub mod NodeShape
+pub mod PolygonShape
 pub mod SearchTreeShape

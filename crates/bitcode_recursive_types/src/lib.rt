@@ -5,4 +5,5 @@ pub mod comment;
 pub mod directory;
 pub mod expr;
 pub mod node;
+pub mod polygon;
 pub mod search_tree;

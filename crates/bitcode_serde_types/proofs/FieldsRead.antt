@@ -11,7 +11,7 @@ use Rattle.bitcode_untyped.specs.Machine.{State}
 use Rattle.bitcode_untyped.proofs.NodeLemmas.{node_counts-push}
 use Rattle.bitcode_untyped.proofs.ReadLemmas.{FieldsSoFar, no_fields_yet, one_field_more, all_fields, fields_stuck_first, tuple_read, tuple_stuck}
 use Rattle.bitcode_serde.specs.Budget.{spend, IsLeft}
-use Rattle.bitcode_serde.specs.Places.{IsPlace, places, place_at}
+use Rattle.bitcode_serde.specs.Places.{IsPlace}
 use Rattle.bitcode_serde.specs.Reading.{Stands}
 use Rattle.bitcode_serde.specs.ReadingValues.{IsSteady, Continues, GoesAlong, IsRefusalAt, IsFieldRefusalAt, field_at}
 use Rattle.bitcode_serde.specs.declared.budget.Budget.{Budget}
@@ -88,9 +88,6 @@ module _ (trees : ShapeTrees) (place : ℕ) (old : Reader) (before : Budget) whe
     module _ (below : Reader) (inside : ℕ) (c : Continues mid below)
         (found : (p : Place) → IsPlace mid.places.below.items place p → IsPlace below.places.below.items inside (field_at (tree_count trees) p i))
         (stands : (a : State) → Stands mid a → Stands below a) where
-      pub inside_there : place ≤ length old.places.below.items → inside ≤ length below.places.below.items
-      inside_there h = (found (place_at (places mid.places.below.items) place) (place_there h, refl)).0
-
       pub field_kept_at : {A : Type 0} (datum : A → Datum) (t : A) (new : Reader) (after : Budget) → Continues below new
           → ReadsAs datum s inside below between t new after → FieldsKept (i + 1) (content ++ datum t ∷ []) left new after
       field_kept_at datum t new after d one =

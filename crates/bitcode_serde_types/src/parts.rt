@@ -55,7 +55,7 @@ pub(crate) fn are_free_in_parts<'a, P: DeserializeFields<'a>, R: DeserializeFiel
 ///
 /// Errors: those of [`crate::deserialize_as::DeserializeAs::read`].
 #[inline(always)]
-pub(crate) fn read_in_parts<'a, P: DeserializeFields<'a>, R: DeserializeFields<'a>>(
+pub(crate) fn read_in_parts<'a, P: DeserializeFields<'a> + Drop, R: DeserializeFields<'a>>(
     alloc: Global,
     reader: &mut Reader<'a>,
     budget: &mut Budget,

@@ -11,7 +11,7 @@ use Rattle.bitcode_serde_types.proofs.read_fields.Tuple2DeserializeFields.read_f
 pub returns-in_err-first-clause-refused : goal.returns-in_err-first-clause-refused
 returns-in_err-first-clause-refused g c =
     let s = g.A.SerializeAs.tree c.args.left in
-    let ss = g.R.SerializeFields.trees c.args.left in
+    let ss = g.R.DeserializeFields.trees c.args.left in
     let y = err_from_is_err_and c.from_residual.result c.from_residual.ensures.1 in
     passed_on (λ e. IsFieldsRefusalAt (tree_and s ss) c.args.place c.args.i c.args.fields c.args.reader.now e.reason) c.from_residual.result
     c.in_err-first.field-0.0 y.0 y.1 y.2
@@ -26,7 +26,7 @@ read_fields-requires g c κs =
 pub returns-in_err-rest-clause-refused : goal.returns-in_err-rest-clause-refused
 returns-in_err-rest-clause-refused g c =
     let s = g.A.SerializeAs.tree c.args.left in
-    let ss = g.R.SerializeFields.trees c.args.left in
+    let ss = g.R.DeserializeFields.trees c.args.left in
     let y = err_from_is_err_and c.from_residual-in_err-rest.result c.from_residual-in_err-rest.ensures.1 in
     passed_on (λ e. IsFieldsRefusalAt (tree_and s ss) c.args.place c.args.i c.args.fields c.args.reader.now e.reason)
     c.from_residual-in_err-rest.result c.in_err-rest.field-0.0 y.0 y.1 y.2
@@ -40,7 +40,7 @@ returns-clause-continues g c =
 pub returns-clause-read : goal.returns-clause-read
 returns-clause-read g c =
     let s = g.A.SerializeAs.tree c.args.left in
-    let ss = g.R.SerializeFields.trees c.args.left in
+    let ss = g.R.DeserializeFields.trees c.args.left in
     field_and_rest s ss c.args.place c.args.i c.args.fields c.args.reader.now g.A.SerializeAs.datum c.in_ok-first.first c.args.budget.now c.read_field.new.budget
-    c.read_field.new.reader c.in_ok-first.ensures.continues c.in_ok-first.ensures.read g.R.SerializeFields.content c.in_ok-rest.rest c.read_fields.new.reader
+    c.read_field.new.reader c.in_ok-first.ensures.continues c.in_ok-first.ensures.read g.R.DeserializeFields.content c.in_ok-rest.rest c.read_fields.new.reader
     c.read_fields.new.budget c.in_ok-rest.ensures.read
