@@ -2,5 +2,6 @@ pub mod CommentShape
 pub mod DirectoryShape
 pub mod ExprShape
 pub mod NodeShape
+pub mod PeerShape
 pub mod PolygonShape
 pub mod SearchTreeShape

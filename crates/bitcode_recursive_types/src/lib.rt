@@ -5,5 +5,6 @@ pub mod comment;
 pub mod directory;
 pub mod expr;
 pub mod node;
+pub mod peer;
 pub mod polygon;
 pub mod search_tree;
