@@ -172,10 +172,25 @@ impl<$input> Decoder<$name> for ${simple}Decoder<$input> {
     fn decode(&mut self) -> Result<$name, Error> {
         self.fields.decode()
     }
-
+$reads_one
     ghost same_shape = { refl };
 }
 
+"""
+# A value that borrows a text is read by its decoder.
+READS_ONE = """
+    fn reads_one() -> bool {
+        <$data<$input> as Decoder<$name>>::reads_one()
+    }
+
+    #[inline(always)]
+    fn read_one(alloc: Global, input: &mut &[u8]) -> Option<$name>
+        ensures { IfSome result
+            (λ t. ReadsValue ⟦<$name as Shaped>⟧.data.makes ⟦<$data<$input> as HoldsData>⟧.shape input.old.now t
+            input.new.now) }
+    {
+        <$data<$input> as Decoder<$name>>::read_one(alloc, input)
+    }
 """
 
 
@@ -415,6 +430,8 @@ def part_encoder_text(part, number, struct, life, free, lists, types, numbers):
     return aliases + f"type {names} = {numbers};\n\n" + Template(HOLDER + PART).substitute(row)
 
 
-def decoder_text(simple, name, input, decoder, data="Data"):
-    """The decoder of the type, which holds that one."""
-    return Template(DECODER).substitute(simple=simple, name=name, input=input, decoder=decoder, data=data)
+def decoder_text(simple, name, input, decoder, reads_one, data="Data"):
+    """The decoder of the type, which holds that one. It may read one value without a decoder, as that one does."""
+    row = {"simple": simple, "name": name, "input": input, "data": data}
+    one = Template(READS_ONE).substitute(row) if reads_one else ""
+    return Template(DECODER).substitute(row, decoder=decoder, reads_one=one)

@@ -296,7 +296,7 @@ def types_left(item, own):
 def closed_parts(item, own, name, input, parts, decoder):
     """What names the types of all that is inside, the item's own decoder, and its type."""
     text = f"/// Names the types of all that is inside `{item.name}`.\npub type {item.name}Inside{arguments(item)} = {closed.inside(item, own, parts)};\n\n"
-    return text, closed.decoder_text(item.name, name, input, decoder), f"{item.name}Decoder<{input}>"
+    return text, closed.decoder_text(item.name, name, input, decoder, not item.lifetime), f"{item.name}Decoder<{input}>"
 
 
 def closed_head(item, own):
@@ -304,6 +304,7 @@ def closed_head(item, own):
     if not closed.is_closed(item, own):
         return "", set()
     words = ["◌&&◌"] if len(fields_of(item)) > 1 else []
+    words += [] if item.lifetime else ["IfSome"]
     words += [] if all(closed.is_quoted(field.type, own) for field in fields_of(item)) else ["false"]
     operators = f"ghost use Rattle.std.specs.Prelude.{{{', '.join(words)}}};\n" if words else ""
     return operators, {"Part", "reserve_as"}
@@ -354,7 +355,7 @@ def tuple_text(item, imports, own, lent, **row):
     is_closed = closed.is_closed(item, own)
     coders = {closed.NEEDED} if is_closed else {"bitcode::coder::{ColumnFree, Decoder, HoldsData, View}"} if apart else ()
     imports = {*imports, "std::alloc::Global", *coders}
-    by_hand = [*(["SurelyOverflows"] if is_closed else []), "data_as", "field_alike", *(["pair_alike"] if len(fields) > 1 else []), "refl"]
+    by_hand = [*((["SurelyOverflows"] if item.lifetime else ["ReadsValue", "SurelyOverflows"]) if is_closed else []), "data_as", "field_alike", *(["pair_alike"] if len(fields) > 1 else []), "refl"]
     operators, more = closed_head(item, own)
     used |= more
     named = ""

@@ -44,14 +44,14 @@ def types_encoded(type, own):
     return sum(types_encoded(field.type, own) for field in fields_of(item)) + sum(types_encoded(part, own) for part in type.parts if part.kind != "lifetime") or 1
 
 
-def part_text(part, number, own):
+def part_text(part, number, own, reads_one):
     """What is written of a part, which has a decoder of its own."""
     input, name = part.lifetime or "'a", part.name + arguments(part)
     fields, types = part.fields, [of_text(field.type) for field in part.fields]
     alias = f"Fields{number}" + arguments(part)
     inner, apart = decoder_of_parts(part, own, input, alias)
     of_fields = f"ConvertFromDecoder<{alias}, {inner}>" if apart else f"DecoderOfFields<{input}, {alias}>"
-    apart += decoder_text(part.name, name, input, of_fields, f"Data{number}")
+    apart += decoder_text(part.name, name, input, of_fields, reads_one, f"Data{number}")
     made = "; ".join(f"{quoted(field.name)} = {place}" for field, place in zip(fields, places(len(fields))))
     data = Template(DATA).substitute(ghost_parts=f"λ t. {halved([f't.{field.name}' for field in fields])}", ghost_made=f"record {{ {made} }}", one_to_one="λ t. refl", parts=alias)
     return Template(BODY).substitute(
@@ -108,7 +108,7 @@ def wide_text(struct, own, told):
     parts, input, name = parts_of(struct), struct.lifetime or "'a", struct.name + arguments(struct)
     if sum(types_encoded(field.type, own) for field in struct.fields) > MOST_ENCODED:
         raise Refused(struct.line, f"the fields name more than {MOST_ENCODED} types, the borrow checker's limit for an encoder: group consecutive fields in structs, until it has 16 fields or fewer")
-    texts = [part_text(part, number, own) for number, part in enumerate(parts)]
+    texts = [part_text(part, number, own, not struct.lifetime) for number, part in enumerate(parts)]
     alias = "Parts" + arguments(struct)
     whole = [part.name + arguments(part) for part in parts]
     found = [(field, f"{place}.{field.name}") for part, place in zip(parts, paths(len(parts))) for field in part.fields]
@@ -139,6 +139,6 @@ def wide_text(struct, own, told):
     head = Template(HEAD).substitute(
         about=f"`{struct.name}` corresponds to pairs of parts of its fields. What is below its declaration was written by `scripts/new_type`.",
         operators=closed_head(struct, own)[0],
-        by_hand=f"ghost use Rattle.bitcode.specs.ByHand.{{{', '.join(['SurelyOverflows', 'data_as', 'field_alike', 'lists_both', 'pair_alike', 'refl'])}}};\n", uses="\n".join(uses) + "\n",
+        by_hand=f"ghost use Rattle.bitcode.specs.ByHand.{{{', '.join([*([] if struct.lifetime else ['ReadsValue']), 'SurelyOverflows', 'data_as', 'field_alike', 'lists_both', 'pair_alike', 'refl'])}}};\n", uses="\n".join(uses) + "\n",
     )
     return head + declaration(struct) + "\n" + "\n".join(texts) + body, checker.crates

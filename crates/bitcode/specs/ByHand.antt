@@ -42,7 +42,7 @@ pub use Rattle.bitcode_parts.specs.Elements.{MakesOfElements}
 -- What a struct with private fields is made from, and when more values surely pass the limit of arrays. What is written
 -- and read of bytes, the values that are surely read back, and that a reason not other than want of memory is it:
 pub use Rattle.bitcode_shapes.specs.Datum.{Datum, natural_in}
-pub use Rattle.bitcode_coder.specs.Coder.{IsWritingRefusal, MakesToo, SurelyOverflows}
+pub use Rattle.bitcode_coder.specs.Coder.{IsWritingRefusal, MakesToo, ReadsValue, SurelyOverflows}
 pub use Rattle.bitcode_derive.specs.ShortLengths.{elements_have_entries, has_no_lengths}
 pub use Rattle.bitcode_derive.specs.Within.{IsDecodingWithin, IsRefusalWithin}
 pub use Rattle.bitcode_derive.specs.Whole.{IsEncodingOf, HasLongListing, HasShortLengths, IsDecodingOf, SpellsDatum, want_of_memory}

@@ -1,6 +1,6 @@
 //! `Trophy` corresponds to the tuple of its fields. What is below its declaration was written by `scripts/new_type`.
-ghost use Rattle.std.specs.Prelude.{◌&&◌};
-ghost use Rattle.bitcode.specs.ByHand.{SurelyOverflows, data_as, field_alike, pair_alike, refl};
+ghost use Rattle.std.specs.Prelude.{◌&&◌, IfSome};
+ghost use Rattle.bitcode.specs.ByHand.{ReadsValue, SurelyOverflows, data_as, field_alike, pair_alike, refl};
 
 use bitcode::coder::{Buffer, ColumnFree, Decoder, Encoder, HoldsColumns, HoldsData, View};
 use bitcode::own::{DecoderOfFields, HasField, InFields, Nth, Part, StructEncoder, reserve_as};
@@ -180,6 +180,19 @@ impl<'a> Decoder<Trophy> for TrophyDecoder<'a> {
 
     fn decode(&mut self) -> Result<Trophy, Error> {
         self.fields.decode()
+    }
+
+    fn reads_one() -> bool {
+        <Data<'a> as Decoder<Trophy>>::reads_one()
+    }
+
+    #[inline(always)]
+    fn read_one(alloc: Global, input: &mut &[u8]) -> Option<Trophy>
+        ensures { IfSome result
+            (λ t. ReadsValue ⟦<Trophy as Shaped>⟧.data.makes ⟦<Data<'a> as HoldsData>⟧.shape
+            input.old.now t input.new.now) }
+    {
+        <Data<'a> as Decoder<Trophy>>::read_one(alloc, input)
     }
 
     ghost same_shape = { refl };
