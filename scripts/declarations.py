@@ -86,9 +86,15 @@ class Words:
 
     def name(self):
         token = self.next()
-        if token.kind == "raw" or token.text in KEYWORDS:
-            other = token.text.replace("r#", "") + "_"
-            raise Refused(token.line, f"`{token.text}` is a keyword in Rattle: choose another name, such as `{other}`")
+        text = token.text.removeprefix("r#")
+        if text in KEYWORDS:
+            why = f"`{token.text}` is a keyword in Rattle: choose another name, such as `{text}_`"
+            if token.kind != "raw" and not self.peek(":"):
+                raise Refused(token.line, why)
+            self.told.fault(token.line, why)
+            return text + "_"
+        if token.kind == "raw":
+            return text
         if token.kind != "name":
             raise Refused(token.line, f"expected a name, found `{token.text}`")
         return token.text
@@ -228,8 +234,11 @@ class Parser(Words):
             return Type("number", " ".join(self.balanced("{", "}")), [], line)
         if self.tokens[self.at].kind in ("lifetime", "number"):
             return Type(self.tokens[self.at].kind, self.next().text, [], line)
-        if self.peek("dyn", "impl", "fn", "*", "!"):
-            raise Refused(line, f"a type with `{self.next().text}` cannot be encoded: use another type")
+        if self.peek("dyn", "extern", "fn", "for", "impl", "unsafe", "*", "!"):
+            word = "fn" if self.peek("extern", "for", "unsafe") else self.next().text
+            raise Refused(line, f"a type with `{word}` cannot be encoded: use another type")
+        if self.peek("<"):
+            raise Refused(line, "a type of a trait is not supported: write the type that it is, or a type parameter for it")
         if self.take("Self"):
             raise Refused(line, "write the type's name in the place of `Self`")
         self.take("::")

@@ -68,7 +68,7 @@ INSTEAD = {
     "NonZero": "write `NonZeroU8` and so on",
     "IndexMap": "write `Vec<(K, V)>`",
     **{name: "write the value itself"
-       for name in "LazyCell LazyLock ManuallyDrop Mutex OnceCell OnceLock Pin RwLock".split()},
+       for name in "LazyCell LazyLock ManuallyDrop Mutex OnceCell OnceLock Pin Reverse RwLock".split()},
     "Weak": "write an index or an id of what it points to",
     "Path": "write `String`",
     "OsStr": "write `String` or `Vec<u8>`",
@@ -235,8 +235,13 @@ class Checker:
             return
         is_checked = self.check_parts(types[:1])
         self.check_parts(types[1:])
-        if is_checked and type.name in KEYED:
+        if is_checked and type.name in KEYED and not self.is_replaced(types[0]):
             self.key(type, types)
+
+    def is_replaced(self, type):
+        """Whether it is said that another type is to be written for one in this, where none of these names is known."""
+        is_blamed = (type.line, type.name) in self.told.blamed and type.name not in TYPES
+        return is_blamed or any(map(self.is_replaced, type.parts))
 
     def marker(self, type):
         """A type that holds no value of what it names."""

@@ -1,7 +1,7 @@
 """What the paths of a file name: types that the library writes and reads, and types of one's own."""
 
 from declarations import Type, Use, fields_of, with_fields
-from known_types import INSTEAD, TYPES, is_unsized, of_text
+from known_types import INSTEAD, INTEGERS, TYPES, is_unsized, of_text
 from tokens import Refused
 
 # Where the types are that no `use` line has to bring in; those of them that are not named here are in std::primitive.
@@ -38,6 +38,11 @@ def instead_of(path):
         return f"`{'::'.join(path)}` is not supported: write a `String` of JSON, or use the second format (docs/GUIDE.md)"
     what = f"`{name}` is a type of std that is" if path[0] in STD else f"`{'::'.join(path)}` is"
     return f"{what} not supported: write a type of your own that holds what it holds"
+
+
+def is_macro(use, declared):
+    """Whether another crate's name is that of a type in the file, as a derive's may be: Rust has no two types of a name."""
+    return use.name in declared and use.path[0] not in (*STD, "crate", "self", "super")
 
 
 def imports_of(uses, faulty, told):
@@ -119,9 +124,11 @@ class Paths:
             faulty |= {item.name} if len(self.told.faults) > faults else set()
 
 
-def sized(items, told):
-    """The items with other types for each `Box`, `Rc` and `Arc` of a text or a slice, and each `Cow` of a text, which the
-    toolchain does not have."""
+def sized(items, imports, told):
+    """The items with other types for each `Box`, `Rc` and `Arc` of a text or a slice, each `Cow` of a text and each
+    `NonZero`, which the toolchain does not have."""
+
+    own = {*imports, *(item.name for item in items)}
 
     def of_type(type):
         declared, type = of_text(type), type._replace(parts=[of_type(part) for part in type.parts])
@@ -131,6 +138,8 @@ def sized(items, told):
         elif type.kind == "path" and type.name in ("Box", "Rc", "Arc") and len(parts) == 1 and is_unsized(parts[0]):
             inner, head = parts[0], "Boxed" if type.name == "Box" else type.name
             written = Type("path", head + ("Slice" if inner.kind == "slice" else "Str"), inner.parts, type.line)
+        elif type.kind == "path" and type.name in {"NonZero"} - own and [part.name in INTEGERS for part in parts] == [True]:
+            written = Type("path", f"NonZero{parts[0].name.capitalize()}", [], type.line)
         else:
             return type
         told.note(type.line, f"`{declared}` is written `{of_text(written)}`")

@@ -7,7 +7,7 @@ from known_types import INTEGERS, MOST_FIELDS
 MARK = "#[skip]"
 ALLOWED = (
     "a skipped field is an integer, `bool`, `char`, `String`, a `Vec` or an `Option` of these: its default has to be"
-    " known"
+    " known. Move it to another struct, which holds this one"
 )
 
 
