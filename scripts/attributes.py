@@ -25,7 +25,7 @@ INSTEAD = {
     **{word: BY_FUNCTION for word in ("with", "serialize_with", "deserialize_with", "getter")},
     **{word: f"{ALL_WRITTEN}. Write `skip`, which does both, or move it to another struct, which holds this one"
        for word in ("skip_serializing", "skip_deserializing")},
-    "skip": "only a field can be skipped",
+    "skip": "only a field can be skipped. Remove it",
     "other": "the library rejects an unknown variant. Remove it",
 }
 

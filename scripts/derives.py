@@ -5,6 +5,7 @@ import re
 
 from declarations import Enum, fields_of
 from known_types import TYPES, of_text
+from skipped import all_fields
 
 FLOATS, HASHED = {"f32", "f64"}, {"HashMap", "HashSet"}
 TEXTS = {"String", "BoxedStr", "RcStr"}
@@ -60,7 +61,8 @@ class Derives:
         for field in fields_of(item):
             self.array_vecs(item, field.type)
         for trait in item.derives:
-            fields = [] if trait == "Default" and isinstance(item, Enum) else fields_of(item)
+            fields = fields_of(item) if isinstance(item, Enum) else all_fields(item)
+            fields = [] if trait == "Default" and isinstance(item, Enum) else fields
             found = [(field, self.lacking(field.type, trait)) for field in fields if trait in LACKING]
             field, type = next(((field, type) for field, type in found if type), (None, None))
             if type is None:
