@@ -173,6 +173,8 @@ class Parser(Words):
         self.attributes = Attributes(told)
         # The types whose declarations are refused, in part or as a whole.
         self.faulty, self.lifetimes = set(), []
+        # How many modules hold what is read.
+        self.depth = 0
         self.items, self.uses, self.aliases, self.consts = [], [], [], []
 
     def heads(self, of, known):
@@ -372,15 +374,19 @@ class Parser(Words):
                 attributes = [other for other in attributes if other != text]
         return Enum(docs, derives, attributes, seen, name, lifetime, types, variants, line, consts)
 
-    def refuse_module(self):
-        """Each type that the script writes is in a file of its own, right in src/."""
+    def refuse_module(self, is_test):
+        """Each type that the script writes is in a file of its own, right in src/. What is said of those inside is said, too."""
         line, name = self.line(), self.name()
         if self.peek(";"):
             raise Refused(line, f"remove `mod {name};`, and write `use crate::{name}::..;` for its types")
-        if not {"struct", "enum"} & set(self.balanced("{", "}") if self.take("{") else []):
+        start = self.at + 1
+        if is_test or not {"struct", "enum"} & set(self.balanced("{", "}") if self.take("{") else []):
             raise Refused(line, self.elsewhere(f"mod {name}"))
         instead = f"write the declarations of `mod {name}` without the `mod`"
-        raise Refused(line, f"each type gets its own module in src/: {instead}")
+        self.told.fault(line, f"each type gets its own module in src/: {instead}")
+        self.at, self.depth = start, self.depth + 1
+        self.file("}")
+        self.depth -= 1
 
     def use(self, before=()):
         """What a `use` line brings in, or a part of it behind these words."""
@@ -390,6 +396,9 @@ class Parser(Words):
                 return [use for uses in self.listed("}", lambda: self.use(path)) for use in uses]
             if self.take("*"):
                 if path[:1] and path[0] in ("std", "core", "alloc", "bitcode", "serde"):
+                    return []
+                if path == ["super"] and self.depth:
+                    self.told.fault(line, "remove the `use super::*`: all types of the file are at hand")
                     return []
                 raise Refused(line, "name each type in the `use` line")
             path.append(self.word())
@@ -440,7 +449,7 @@ class Parser(Words):
         elif self.peek("union"):
             raise Refused(self.line(), "unions are not supported: write an enum")
         elif self.take("mod"):
-            self.refuse_module()
+            self.refuse_module(any(inner[:1] == ["cfg"] and "test" in inner for inner, _ in found))
         elif self.take("type"):
             self.aliases.append(self.alias())
         elif self.peek("const") and self.tokens[self.at + 1].text not in ("fn", "unsafe", "_") and self.take("const"):
@@ -452,9 +461,9 @@ class Parser(Words):
         elif not self.is_end() or docs or found:
             raise Refused(self.line(), f"expected a struct or an enum, found `{self.tokens[self.at].text}`")
 
-    def file(self):
-        """Reads all of the file: behind what is refused, the next item."""
-        while not self.is_end():
+    def file(self, close=None):
+        """Reads all of the file, or of a module, up to the mark that closes it: behind what is refused, the next item."""
+        while not self.is_end() and not self.take(close):
             start, faults = self.at, len(self.told.faults)
             try:
                 self.item()

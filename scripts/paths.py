@@ -72,10 +72,10 @@ class Paths:
 
     def bring_in(self, path, line, parameters):
         name = path[-1]
-        if path[0] != "crate":
-            raise Refused(line, f"write the path of `{name}` starting with `crate`: the file is in src/")
         if name in self.declared:
             raise Refused(line, f"write `{name}`: it is declared here")
+        if path[0] != "crate":
+            raise Refused(line, f"write the path of `{name}` starting with `crate`: the file is in src/")
         if name in self.taken:
             raise Refused(line, self.taken[name])
         if name in parameters:
@@ -111,6 +111,9 @@ class Paths:
             raise Refused(type.line, f"`{'::'.join(path)}` is not supported: write a type parameter of its own for it")
         elif not is_known(path):
             # A type of std that the library does not write is refused with all that is said of it.
+            if path[0] not in STD and name in self.declared:
+                instead = f"write `{name}`, which is declared here, or another type of your own"
+                raise Refused(type.line, f"`{'::'.join(path)}` is not supported: {instead}")
             if path[0] not in STD or name in TYPES or name in others or name not in INSTEAD:
                 raise Refused(type.line, instead_of(path))
         elif name in others:
