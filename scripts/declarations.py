@@ -237,10 +237,13 @@ class Parser(Words):
         if self.tokens[self.at].kind in ("lifetime", "number"):
             return Type(self.tokens[self.at].kind, self.next().text, [], line)
         if self.peek("dyn", "extern", "fn", "for", "impl", "unsafe", "*", "!"):
-            word = "fn" if self.peek("extern", "for", "unsafe") else self.next().text
-            raise Refused(line, f"a type with `{word}` cannot be encoded: use another type")
+            word = "fn" if self.peek("extern", "for", "unsafe") else self.tokens[self.at].text
+            is_marker = self.tokens[self.at - 2].text == "PhantomData"
+            instead = "write `PhantomData<T>`" if is_marker else "use another type"
+            raise Refused(line, f"a type with `{word}` cannot be encoded: {instead}")
         if self.peek("<"):
-            raise Refused(line, "a type of a trait is not supported: write the type that it is, or a type parameter for it")
+            instead = "write the type that it is, or a type parameter for it"
+            raise Refused(line, f"a type of a trait is not supported: {instead}")
         if self.take("Self"):
             raise Refused(line, "write the type's name in the place of `Self`")
         self.take("::")
@@ -375,7 +378,8 @@ class Parser(Words):
         return Enum(docs, derives, attributes, seen, name, lifetime, types, variants, line, consts)
 
     def refuse_module(self, is_test):
-        """Each type that the script writes is in a file of its own, right in src/. What is said of those inside is said, too."""
+        """Each type that the script writes is in a file of its own, right in src/. What is said of those inside is said
+        too."""
         line, name = self.line(), self.name()
         if self.peek(";"):
             raise Refused(line, f"remove `mod {name};`, and write `use crate::{name}::..;` for its types")
@@ -462,7 +466,7 @@ class Parser(Words):
             raise Refused(self.line(), f"expected a struct or an enum, found `{self.tokens[self.at].text}`")
 
     def file(self, close=None):
-        """Reads all of the file, or of a module, up to the mark that closes it: behind what is refused, the next item."""
+        """Reads all of the file, or of a module up to the mark that closes it: behind what is refused, the next item."""
         while not self.is_end() and not self.take(close):
             start, faults = self.at, len(self.told.faults)
             try:

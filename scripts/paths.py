@@ -41,7 +41,8 @@ def instead_of(path):
 
 
 def is_macro(use, declared):
-    """Whether another crate's name is that of a type in the file, as a derive's may be: Rust has no two types of a name."""
+    """Whether another crate's name is that of a type in the file, as a derive's may be. Rust has no two types of a
+    name."""
     return use.name in declared and use.path[0] not in (*STD, "crate", "self", "super")
 
 
@@ -141,7 +142,7 @@ def sized(items, imports, told):
         elif type.kind == "path" and type.name in ("Box", "Rc", "Arc") and len(parts) == 1 and is_unsized(parts[0]):
             inner, head = parts[0], "Boxed" if type.name == "Box" else type.name
             written = Type("path", head + ("Slice" if inner.kind == "slice" else "Str"), inner.parts, type.line)
-        elif type.kind == "path" and type.name in {"NonZero"} - own and [part.name in INTEGERS for part in parts] == [True]:
+        elif type.name in {"NonZero"} - own and [part.name in INTEGERS for part in parts] == [True]:
             written = Type("path", f"NonZero{parts[0].name.capitalize()}", [], type.line)
         else:
             return type

@@ -48,8 +48,8 @@ def default_of(type):
 
 
 def set_aside(item, faulty, told):
-    """The item with the fields that are written, and the others, with their places, apart. The name of one with a fault is
-    added to the faulty ones."""
+    """The item with the fields that are written, and the others, with their places, apart. The name of one with a fault
+    is added to the faulty ones."""
     faults = len(told.faults)
     if not isinstance(item, Struct):
         for field in fields_of(item):
