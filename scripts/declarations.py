@@ -7,9 +7,10 @@ from changes import taken
 from tokens import Passed, Refused, tokens
 
 # What cannot be a name in Rust or in Rattle.
-KEYWORDS = set("abstract as async await become box break const continue crate do dyn else enum extern false final fn for "
-               "gen ghost if impl in let loop macro match mod move mut override priv pub ref return self Self static "
-               "struct super trait true try type typeof unsafe unsized use virtual where while yield".split())
+KEYWORDS = set("abstract as async await become box break const continue crate do dyn else ensures enum extern false "
+               "final fn for gen ghost if impl in let loop macro match mod move mut override priv pub ref requires "
+               "return self Self static struct super trait true try type typeof unsafe unsized use virtual where while "
+               "yield".split())
 
 # Other items that stand beside declarations.
 OTHERS = set("async const extern fn impl macro_rules static trait type unsafe".split())
