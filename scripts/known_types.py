@@ -66,6 +66,8 @@ INSTEAD = {
     "SystemTime": "write a `Duration` since a time of your choice",
     "Instant": "write a `Duration` since a time of your choice",
     "NonZero": "write `NonZeroU8` and so on",
+    "f16": "write `f32`",
+    "f128": "write `f64`",
     "IndexMap": "write `Vec<(K, V)>`",
     **{name: "write the value itself"
        for name in "LazyCell LazyLock ManuallyDrop Mutex OnceCell OnceLock Pin Reverse RwLock".split()},
