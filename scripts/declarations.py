@@ -435,6 +435,14 @@ class Parser(Words):
             raise Refused(line, self.elsewhere("const"))
         return Const(name, words, line)
 
+    def macro(self):
+        """The path of a macro that is called here, with its `!`, or nothing."""
+        end = self.at
+        while self.tokens[end].kind == "name" and self.tokens[end + 1].text == "::":
+            end += 2
+        is_macro = self.tokens[end].kind == "name" and self.tokens[end + 1].text == "!"
+        return "".join(token.text for token in self.tokens[self.at : end + 2]) if is_macro else ""
+
     def elsewhere(self, word):
         allowed = "only structs, enums, `use` lines, aliases and lengths are allowed"
         return f"{allowed}: move the `{word}` to another file of your crate"
@@ -461,8 +469,8 @@ class Parser(Words):
             self.consts.append(self.const())
         elif self.peek(*OTHERS):
             raise Refused(self.line(), self.elsewhere(self.tokens[self.at].text))
-        elif self.tokens[self.at].kind == "name" and self.tokens[self.at + 1].text == "!":
-            raise Refused(self.line(), self.elsewhere(self.tokens[self.at].text + "!"))
+        elif self.macro():
+            raise Refused(self.line(), self.elsewhere(self.macro()))
         elif not self.is_end() or docs or found:
             raise Refused(self.line(), f"expected a struct or an enum, found `{self.tokens[self.at].text}`")
 
