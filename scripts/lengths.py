@@ -59,6 +59,8 @@ class Sum:
         elif NUMBER.fullmatch(word):
             digits = NUMBER.fullmatch(word)[1].replace("_", "")
             found = int(digits, 0 if digits[1:2].isalpha() else 10)
+        elif word in ("u8", "u16") and self.words[self.at : self.at + 3] == [":", ":", "MAX"]:
+            self.at, found = self.at + 3, 2 ** int(word[1:]) - 1
         elif word in self.consts and word not in self.above:
             found = Sum(self.consts[word].words, self.consts, (*self.above, word)).value()
         else:
