@@ -25,7 +25,7 @@ INSTEAD = {
     **{word: BY_FUNCTION for word in ("with", "serialize_with", "deserialize_with", "getter")},
     **{word: f"{ALL_WRITTEN}. Write `skip`, which does both, or move it to another struct, which holds this one"
        for word in ("skip_serializing", "skip_deserializing")},
-    "skip": "only a field can be skipped",
+    "skip": "only a field can be skipped. Remove it",
     "other": "the library rejects an unknown variant. Remove it",
 }
 
@@ -93,8 +93,8 @@ class Attributes:
     def one(self, inner, line, of, known):
         """An attribute, as it is written again, or nothing where it is taken off or refused."""
         name, text = inner[0] if inner else "", shown(inner)
-        if inner[1:] == ["(", "skip", ")"] and name in ("serde", "bitcode") and of == "field":
-            return ["#[skip]"]
+        if name in ("serde", "bitcode") and of == "field" and ["skip"] in parted(inner[2:-1]):
+            return self.skipped(inner, line)
         if name in ("serde", "bitcode"):
             self.of_serde(inner, line)
         elif inner == ["second_format"] and of == "type":
@@ -121,6 +121,14 @@ class Attributes:
         """Whether this can be an attribute of a derive of another crate, which the item has."""
         is_bare = inner[1:2] not in (["("], ["="])
         return self.has_others and inner and inner[0] not in {*known, *ATTRIBUTES} and (of != "type" or not is_bare)
+
+    def skipped(self, inner, line):
+        """The attribute of a field that is not written, with whose `skip` only what changes nothing may stand."""
+        for part in parted(inner[2:-1]):
+            if part not in (["skip"], ["default"]) and part[0] not in NO_BYTE:
+                instead = "remove it, since the field is 0, `false`, `None` or empty when it is decoded"
+                self.told.fault(line, f"`#[{inner[0]}({part[0]})]` is not supported for a skipped field: {instead}")
+        return ["#[skip]"]
 
     def of_serde(self, inner, line):
         """Takes off what no byte depends on, and refuses the rest with what to write instead."""

@@ -7,9 +7,10 @@ from changes import taken
 from tokens import Passed, Refused, tokens
 
 # What cannot be a name in Rust or in Rattle.
-KEYWORDS = set("abstract as async await become box break const continue crate do dyn else enum extern false final fn for "
-               "gen ghost if impl in let loop macro match mod move mut override priv pub ref return self Self static "
-               "struct super trait true try type typeof unsafe unsized use virtual where while yield".split())
+KEYWORDS = set("abstract as async await become box break const continue crate do dyn else ensures enum extern false "
+               "final fn for gen ghost if impl in let loop macro match mod move mut override priv pub ref requires "
+               "return self Self static struct super trait true try type typeof unsafe unsized use virtual where while "
+               "yield".split())
 
 # Other items that stand beside declarations.
 OTHERS = set("async const extern fn impl macro_rules static trait type unsafe".split())
@@ -86,9 +87,15 @@ class Words:
 
     def name(self):
         token = self.next()
-        if token.kind == "raw" or token.text in KEYWORDS:
-            other = token.text.replace("r#", "") + "_"
-            raise Refused(token.line, f"`{token.text}` is a keyword in Rattle: choose another name, such as `{other}`")
+        text = token.text.removeprefix("r#")
+        if text in KEYWORDS:
+            why = f"`{token.text}` is a keyword in Rattle: choose another name, such as `{text}_`"
+            if token.kind != "raw" and not self.peek(":"):
+                raise Refused(token.line, why)
+            self.told.fault(token.line, why)
+            return text + "_"
+        if token.kind == "raw":
+            return text
         if token.kind != "name":
             raise Refused(token.line, f"expected a name, found `{token.text}`")
         return token.text
@@ -167,6 +174,8 @@ class Parser(Words):
         self.attributes = Attributes(told)
         # The types whose declarations are refused, in part or as a whole.
         self.faulty, self.lifetimes = set(), []
+        # How many modules hold what is read.
+        self.depth = 0
         self.items, self.uses, self.aliases, self.consts = [], [], [], []
 
     def heads(self, of, known):
@@ -228,8 +237,14 @@ class Parser(Words):
             return Type("number", " ".join(self.balanced("{", "}")), [], line)
         if self.tokens[self.at].kind in ("lifetime", "number"):
             return Type(self.tokens[self.at].kind, self.next().text, [], line)
-        if self.peek("dyn", "impl", "fn", "*", "!"):
-            raise Refused(line, f"a type with `{self.next().text}` cannot be encoded: use another type")
+        if self.peek("dyn", "extern", "fn", "for", "impl", "unsafe", "*", "!"):
+            word = "fn" if self.peek("extern", "for", "unsafe") else self.tokens[self.at].text
+            is_marker = self.tokens[self.at - 2].text == "PhantomData"
+            instead = "write `PhantomData<T>`" if is_marker else "use another type"
+            raise Refused(line, f"a type with `{word}` cannot be encoded: {instead}")
+        if self.peek("<"):
+            instead = "write the type that it is, or a type parameter for it"
+            raise Refused(line, f"a type of a trait is not supported: {instead}")
         if self.take("Self"):
             raise Refused(line, "write the type's name in the place of `Self`")
         self.take("::")
@@ -363,15 +378,20 @@ class Parser(Words):
                 attributes = [other for other in attributes if other != text]
         return Enum(docs, derives, attributes, seen, name, lifetime, types, variants, line, consts)
 
-    def refuse_module(self):
-        """Each type that the script writes is in a file of its own, right in src/."""
+    def refuse_module(self, is_test):
+        """Each type that the script writes is in a file of its own, right in src/. What is said of those inside is said
+        too."""
         line, name = self.line(), self.name()
         if self.peek(";"):
             raise Refused(line, f"remove `mod {name};`, and write `use crate::{name}::..;` for its types")
-        if not {"struct", "enum"} & set(self.balanced("{", "}") if self.take("{") else []):
+        start = self.at + 1
+        if is_test or not {"struct", "enum"} & set(self.balanced("{", "}") if self.take("{") else []):
             raise Refused(line, self.elsewhere(f"mod {name}"))
         instead = f"write the declarations of `mod {name}` without the `mod`"
-        raise Refused(line, f"each type gets its own module in src/: {instead}")
+        self.told.fault(line, f"each type gets its own module in src/: {instead}")
+        self.at, self.depth = start, self.depth + 1
+        self.file("}")
+        self.depth -= 1
 
     def use(self, before=()):
         """What a `use` line brings in, or a part of it behind these words."""
@@ -381,6 +401,9 @@ class Parser(Words):
                 return [use for uses in self.listed("}", lambda: self.use(path)) for use in uses]
             if self.take("*"):
                 if path[:1] and path[0] in ("std", "core", "alloc", "bitcode", "serde"):
+                    return []
+                if path == ["super"] and self.depth:
+                    self.told.fault(line, "remove the `use super::*`: all types of the file are at hand")
                     return []
                 raise Refused(line, "name each type in the `use` line")
             path.append(self.word())
@@ -412,6 +435,14 @@ class Parser(Words):
             raise Refused(line, self.elsewhere("const"))
         return Const(name, words, line)
 
+    def macro(self):
+        """The path of a macro that is called here, with its `!`, or nothing."""
+        end = self.at
+        while self.tokens[end].kind == "name" and self.tokens[end + 1].text == "::":
+            end += 2
+        is_macro = self.tokens[end].kind == "name" and self.tokens[end + 1].text == "!"
+        return "".join(token.text for token in self.tokens[self.at : end + 2]) if is_macro else ""
+
     def elsewhere(self, word):
         allowed = "only structs, enums, `use` lines, aliases and lengths are allowed"
         return f"{allowed}: move the `{word}` to another file of your crate"
@@ -431,21 +462,21 @@ class Parser(Words):
         elif self.peek("union"):
             raise Refused(self.line(), "unions are not supported: write an enum")
         elif self.take("mod"):
-            self.refuse_module()
+            self.refuse_module(any(inner[:1] == ["cfg"] and "test" in inner for inner, _ in found))
         elif self.take("type"):
             self.aliases.append(self.alias())
         elif self.peek("const") and self.tokens[self.at + 1].text not in ("fn", "unsafe", "_") and self.take("const"):
             self.consts.append(self.const())
         elif self.peek(*OTHERS):
             raise Refused(self.line(), self.elsewhere(self.tokens[self.at].text))
-        elif self.tokens[self.at].kind == "name" and self.tokens[self.at + 1].text == "!":
-            raise Refused(self.line(), self.elsewhere(self.tokens[self.at].text + "!"))
+        elif self.macro():
+            raise Refused(self.line(), self.elsewhere(self.macro()))
         elif not self.is_end() or docs or found:
             raise Refused(self.line(), f"expected a struct or an enum, found `{self.tokens[self.at].text}`")
 
-    def file(self):
-        """Reads all of the file: behind what is refused, the next item."""
-        while not self.is_end():
+    def file(self, close=None):
+        """Reads all of the file, or of a module up to the mark that closes it: behind what is refused, the next item."""
+        while not self.is_end() and not self.take(close):
             start, faults = self.at, len(self.told.faults)
             try:
                 self.item()

@@ -98,8 +98,8 @@ def default_of(field, own, lacking, crate, module_of):
         names = {"[]"} | ({"string_bytes"} if type.name == "String" else set())
         return Value(f"{type.name}::new(alloc)", EMPTY[type.name], names)
     if lacking(type, "Default"):
-        raise Refused(
-            field.change.line,
-            f"`{of_text(type)}` has no `Default` here: write `#[since({field.change.since}, default = ..)]`",
-        )
+        item = own[type.name].item if type.kind == "path" and type.name in own else None
+        has_literal = any(not other.fields for other in getattr(item, "variants", ()))
+        instead = f"#[since({field.change.since}, default = ..)]" if has_literal else f"Option<{of_text(type)}>"
+        raise Refused(field.change.line, f"`{of_text(type)}` has no `Default` here: write `{instead}`")
     return Value("Default::default()", f"⟦<{of_text(type)} as Default>⟧.is_default {{}}")

@@ -5,25 +5,30 @@ import re
 
 from declarations import Enum, fields_of
 from known_types import TYPES, of_text
+from skipped import all_fields
 
 FLOATS, HASHED = {"f32", "f64"}, {"HashMap", "HashSet"}
-TEXTS = {"String", "BoxedStr", "RcStr"}
-LISTS = {"Vec", "BoxedSlice", "RcSlice", "VecDeque", "LinkedList", "ArrayVec", "BTreeSet", "BTreeMap"}
+TEXTS = {"String", "BoxedStr", "RcStr", "ArcStr", "CowStr"}
+LISTS = {"Vec", "BoxedSlice", "RcSlice", "ArcSlice", "VecDeque", "LinkedList", "ArrayVec", "BTreeSet", "BTreeMap"}
+RANGES = {"Range", "RangeInclusive"}
+# A tuple of more parts has only these traits.
+MOST_PARTS, OF_LONG_TUPLES = 12, {"Clone", "Copy"}
 # The types that do not have a trait, whatever they hold.
 LACKING = {
     "Clone": {"Absent"},
-    "Copy": {"Absent", "Box", "Rc", "BinaryHeap", *TEXTS, *LISTS, *HASHED},
+    "Copy": {"Absent", "Box", "Rc", "Arc", "BinaryHeap", *TEXTS, *LISTS, *HASHED, *RANGES},
     "Debug": {"Absent"},
-    "Default": {"Absent", "Box", "Rc", "BinaryHeap", "Result", *TEXTS, *LISTS - {"ArrayVec"}, *HASHED,
-                *(name for name in TYPES if name.startswith("NonZero"))},
+    "Default": {"Absent", "Box", "Rc", "Arc", "BinaryHeap", "Result", "Ordering", "RangeInclusive", *TEXTS,
+                *LISTS - {"ArrayVec"}, *HASHED,
+                *(name for name in TYPES if name.startswith(("NonZero", "Ip", "Socket")))},
     "Eq": {"Absent", "BinaryHeap", *FLOATS},
     "Hash": {"Absent", "BinaryHeap", *FLOATS, *HASHED},
-    "Ord": {"Absent", "BinaryHeap", *FLOATS, *HASHED},
+    "Ord": {"Absent", "BinaryHeap", *FLOATS, *HASHED, *RANGES},
     "PartialEq": {"Absent", "BinaryHeap"},
-    "PartialOrd": {"Absent", "BinaryHeap", *HASHED},
+    "PartialOrd": {"Absent", "BinaryHeap", *HASHED, *RANGES},
 }
 # The types that have a trait, whatever they hold.
-HAVING = {"Default": {"ArrayVec", "Option", "PhantomData"}, "Clone": {"Rc", "RcSlice"}}
+HAVING = {"Default": {"ArrayVec", "Option", "PhantomData"}, "Clone": {"Rc", "RcSlice", "Arc", "ArcSlice"}}
 
 
 class Derives:
@@ -40,7 +45,8 @@ class Derives:
             kept = self.kept.get(type.name, self.own[type.name].derives)
             if kept is not None and trait not in kept and not self.is_by_hand(type.name, trait):
                 return type
-        if type.kind == "path" and type.name in LACKING[trait]:
+        is_long = type.kind == "tuple" and len(type.parts) > MOST_PARTS and trait not in OF_LONG_TUPLES
+        if is_long or type.kind == "path" and type.name in LACKING[trait]:
             return type
         if type.name in HAVING.get(trait, ()) or type.name == "PhantomData" or type.kind == "reference":
             return None
@@ -60,13 +66,17 @@ class Derives:
         for field in fields_of(item):
             self.array_vecs(item, field.type)
         for trait in item.derives:
-            fields = [] if trait == "Default" and isinstance(item, Enum) else fields_of(item)
+            fields = fields_of(item) if isinstance(item, Enum) else all_fields(item)
+            fields = [] if trait == "Default" and isinstance(item, Enum) else fields
             found = [(field, self.lacking(field.type, trait)) for field in fields if trait in LACKING]
             field, type = next(((field, type) for field, type in found if type), (None, None))
             if type is None:
                 derives.append(trait)
             else:
                 self.at(item, trait, field, type)
+        if "Hash" in derives and "Eq" not in derives and not self.is_by_hand(item.name, "Eq"):
+            instead = f"derive `PartialEq, Eq` for `{item.name}` too, or remove `Hash`"
+            self.told.fault(item.line, f"`Hash` asks for `Eq` here: {instead}")
         if isinstance(item, Enum):
             item = self.default(item, derives)
         self.kept[item.name], self.off[item.name] = set(derives), set(item.derives) - set(derives)

@@ -4,7 +4,7 @@ contains these or is inside them."""
 import second_format_proofs
 from known_types import names_in
 from declarations import fields_of
-from second_format import LIBRARY, Group
+from second_format import LIBRARY, Fields, Group
 from second_format_text import code, specs
 
 MARK = "#[second_format]"
@@ -53,10 +53,7 @@ def parted_by_format(items, told):
         if item.name in second | held and getattr(item, "skipped", ()):
             told.fault(
                 item.line,
-                (
-                    f"`{item.name}` is written for the second format, which skips no field: move the field to another"
-                    " struct"
-                ),
+                f"`{item.name}` is written for the second format, which skips no field: remove the field",
             )
         both = sorted(inside[item.name] & held) if item.name not in second | held else []
         if both:
@@ -75,6 +72,8 @@ def parted_by_format(items, told):
         joined = [group for group in groups if near & {name for one in group for name in {one.name} | inside[one.name]}]
         groups = [group for group in groups if group not in joined]
         groups.append([*(one for group in joined for one in group), item])
+    for group in groups:
+        Fields([item for item in group if not (item.types or item.consts)]).refuse(told)
     order = {item.name: place for place, item in enumerate(items)}
     return [item for item in items if item not in chosen], [
         sorted(group, key=lambda item: order[item.name]) for group in groups

@@ -66,9 +66,11 @@ INSTEAD = {
     "SystemTime": "write a `Duration` since a time of your choice",
     "Instant": "write a `Duration` since a time of your choice",
     "NonZero": "write `NonZeroU8` and so on",
+    "f16": "write `f32`",
+    "f128": "write `f64`",
     "IndexMap": "write `Vec<(K, V)>`",
     **{name: "write the value itself"
-       for name in "LazyCell LazyLock ManuallyDrop Mutex OnceCell OnceLock Pin RwLock".split()},
+       for name in "LazyCell LazyLock ManuallyDrop Mutex OnceCell OnceLock Pin Reverse RwLock".split()},
     "Weak": "write an index or an id of what it points to",
     "Path": "write `String`",
     "OsStr": "write `String` or `Vec<u8>`",
@@ -134,13 +136,25 @@ def can_be_key(type, own, words):
     return bool(known) and (known.key == "yes" or known.key == "parts" and all(can_be_key(part, own, words) for part in type.parts))
 
 
+def could_be_key(item, own):
+    """Whether a type of one's own is a key if it derives what keys derive, and the others in its fields are keys."""
+    if word_of(item) == "enum":
+        return len(item.variants) > 1 and not fields_of(item)
+    words = frozenset({"Key", "Ord", "Hash"})
+    keys = {name: known._replace(key=words) for name, known in own.items()}
+    fits = all(can_be_key(field.type, keys, words) for field in fields_of(item))
+    return fits and not (item.types or item.consts or item.skipped)
+
+
 def no_key(type, own, derive):
     """What to write where the type is no key, since one of one's own in it is none; nothing where that is not why."""
+    item = own[type.name].item if type.kind == "path" and type.name in own else None
+    if item and not could_be_key(item, own):
+        return ""
     for part in type.parts:
         if no_key(part, own, derive):
             return no_key(part, own, derive)
-    item = own[type.name].item if type.kind == "path" and type.name in own else None
-    if not item or item.types or item.consts:
+    if not item:
         return ""
     missing = [word for word in ("PartialEq", "Eq", "PartialOrd", "Ord", *(("Hash",) if derive == "Hash" else ())) if word not in item.derives]
     if missing:
@@ -235,8 +249,13 @@ class Checker:
             return
         is_checked = self.check_parts(types[:1])
         self.check_parts(types[1:])
-        if is_checked and type.name in KEYED:
+        if is_checked and type.name in KEYED and not self.is_replaced(types[0]):
             self.key(type, types)
+
+    def is_replaced(self, type):
+        """Whether it is said that another type is to be written for one in this, where none of these names is known."""
+        is_blamed = (type.line, type.name) in self.told.blamed and type.name not in TYPES
+        return is_blamed or any(map(self.is_replaced, type.parts))
 
     def marker(self, type):
         """A type that holds no value of what it names."""

@@ -59,6 +59,8 @@ class Sum:
         elif NUMBER.fullmatch(word):
             digits = NUMBER.fullmatch(word)[1].replace("_", "")
             found = int(digits, 0 if digits[1:2].isalpha() else 10)
+        elif word in ("u8", "u16") and self.words[self.at : self.at + 3] == [":", ":", "MAX"]:
+            self.at, found = self.at + 3, 2 ** int(word[1:]) - 1
         elif word in self.consts and word not in self.above:
             found = Sum(self.consts[word].words, self.consts, (*self.above, word)).value()
         else:
@@ -75,7 +77,7 @@ class WrittenOut:
     def __init__(self, consts, aliases, told):
         self.consts, self.aliases = {const.name: const for const in consts}, {alias.name: alias for alias in aliases}
         # The constants that lengths have.
-        self.told, self.parameters, self.used = told, (), set()
+        self.told, self.parameters, self.used, self.types = told, (), set(), {*self.aliases}
 
     def length(self, text, line):
         """The length as a number; one that is so already, or that is a parameter, is as it was."""
@@ -110,7 +112,9 @@ class WrittenOut:
     def argument(self, type, number, part, above):
         """A type or a number between the angle brackets of another type."""
         known = TYPES.get(type.name) if type.kind == "path" else None
-        if known and known.numbers and number == known.types and part.kind == "path" and len(part.path) == 1:
+        is_name = part.kind == "path" and len(part.path) == 1 and not part.parts
+        is_length = known and known.numbers and number == known.types
+        if is_name and (is_length or part.name in set(self.consts) - self.types - {*self.parameters}):
             return part._replace(kind="number", name=self.length(part.name, part.line), path=())
         return self.type(part, above)
 
@@ -141,7 +145,7 @@ class WrittenOut:
 
     def items(self, items, faulty):
         """The items with all names written out. Of those with a fault the names are added to the faulty ones."""
-        found = []
+        found, self.types = [], {*self.aliases, *(item.name for item in items)}
         for item in items:
             faults, self.parameters = len(self.told.faults), (*item.types, *item.consts)
             found.append(with_fields(item, self.fields))

@@ -2,6 +2,8 @@
 
 from string import Template
 
+from closed import inside_of, is_pair, with_arguments
+from declarations import fields_of
 from known_types import MOST_TYPES, of_text, types_in
 from structs import arguments, bounds, in_a_head, paths, quoted
 from variants import LETTERS, arms, declaration, held_type, names_of, one_to_one, payload, value
@@ -197,9 +199,15 @@ ARE = "is_variant refl (λ p. refl) (λ p old new h. h) (λ p old h. h) (λ p ol
 POINTERS = ("Box", "Rc", "Arc", "Wrapping", "Saturating", "Range", "RangeInclusive")
 
 
-def is_nothing(type):
+def is_nothing(type, own):
     """Whether values of the type have no columns, so that a decoder of them keeps no part of an input."""
-    return type.name == "PhantomData" or type.kind in ("tuple", "array") and all(map(is_nothing, type.parts)) or type.name in POINTERS and is_nothing(type.parts[0])
+    if type.kind == "path" and type.name in own:
+        item, within = own[type.name].item, inside_of(type, own)
+        if not item or not is_pair(item) or own[type.name].is_closed:
+            return False
+        return all(is_nothing(with_arguments(field.type, item, type.parts), within) for field in fields_of(item))
+    is_of_parts = type.kind in ("tuple", "array") or type.name in POINTERS
+    return type.name == "PhantomData" or is_of_parts and all(is_nothing(part, own) for part in type.parts)
 
 
 def groups_of(weights):
@@ -237,7 +245,7 @@ class Numbered:
     """The parts of the file of an enum."""
 
     def __init__(self, enum, own, crate, module):
-        self.enum, self.crate, self.module, self.count = enum, crate, module, len(enum.variants)
+        self.enum, self.own, self.crate, self.module, self.count = enum, own, crate, module, len(enum.variants)
         weights = [sum(types_in(field.type, own) for field in variant.fields) for variant in enum.variants]
         self.groups = groups_of(weights)
         most = MOST_BORROWED if enum.lifetime else len(self.groups) if len(self.groups) <= MOST_GROUPS else 1
@@ -307,7 +315,8 @@ class Numbered:
     def decoders(self, groups):
         """The decoders of these groups: their type, and a mark of the input's lifetime and its value where none of them keeps a part of the input."""
         type = in_twos([(group[0], f"DecodersOf{len(group)}<{self.input}, At<{group[0]}>, {self.types_of(group)}>") for group in groups])
-        borrows = self.enum.lifetime or not all(is_nothing(field.type) for group in groups for n in group for field in self.enum.variants[n].fields)
+        fields = [field for group in groups for n in group for field in self.enum.variants[n].fields]
+        borrows = self.enum.lifetime or not all(is_nothing(field.type, self.own) for field in fields)
         return {"decoders": type, "mark": "" if borrows else MARK, "marked": "" if borrows else MARKED}
 
     def part(self, groups, whole=False):

@@ -1,7 +1,7 @@
 """What the paths of a file name: types that the library writes and reads, and types of one's own."""
 
 from declarations import Type, Use, fields_of, with_fields
-from known_types import INSTEAD, TYPES, is_unsized, of_text
+from known_types import INSTEAD, INTEGERS, TYPES, is_unsized, of_text
 from tokens import Refused
 
 # Where the types are that no `use` line has to bring in; those of them that are not named here are in std::primitive.
@@ -40,6 +40,12 @@ def instead_of(path):
     return f"{what} not supported: write a type of your own that holds what it holds"
 
 
+def is_macro(use, declared):
+    """Whether another crate's name is that of a type in the file, as a derive's may be. Rust has no two types of a
+    name."""
+    return use.name in declared and use.path[0] not in (*STD, "crate", "self", "super")
+
+
 def imports_of(uses, faulty, told):
     """The types of one's own that the file brings in, and all that it does, by their names."""
     own, named = {}, {}
@@ -67,10 +73,10 @@ class Paths:
 
     def bring_in(self, path, line, parameters):
         name = path[-1]
-        if path[0] != "crate":
-            raise Refused(line, f"write the path of `{name}` starting with `crate`: the file is in src/")
         if name in self.declared:
             raise Refused(line, f"write `{name}`: it is declared here")
+        if path[0] != "crate":
+            raise Refused(line, f"write the path of `{name}` starting with `crate`: the file is in src/")
         if name in self.taken:
             raise Refused(line, self.taken[name])
         if name in parameters:
@@ -106,6 +112,9 @@ class Paths:
             raise Refused(type.line, f"`{'::'.join(path)}` is not supported: write a type parameter of its own for it")
         elif not is_known(path):
             # A type of std that the library does not write is refused with all that is said of it.
+            if path[0] not in STD and name in self.declared:
+                instead = f"write `{name}`, which is declared here, or another type of your own"
+                raise Refused(type.line, f"`{'::'.join(path)}` is not supported: {instead}")
             if path[0] not in STD or name in TYPES or name in others or name not in INSTEAD:
                 raise Refused(type.line, instead_of(path))
         elif name in others:
@@ -119,9 +128,11 @@ class Paths:
             faulty |= {item.name} if len(self.told.faults) > faults else set()
 
 
-def sized(items, told):
-    """The items with other types for each `Box`, `Rc` and `Arc` of a text or a slice, and each `Cow` of a text, which the
-    toolchain does not have."""
+def sized(items, imports, told):
+    """The items with other types for each `Box`, `Rc` and `Arc` of a text or a slice, each `Cow` of a text and each
+    `NonZero`, which the toolchain does not have."""
+
+    own = {*imports, *(item.name for item in items)}
 
     def of_type(type):
         declared, type = of_text(type), type._replace(parts=[of_type(part) for part in type.parts])
@@ -131,6 +142,8 @@ def sized(items, told):
         elif type.kind == "path" and type.name in ("Box", "Rc", "Arc") and len(parts) == 1 and is_unsized(parts[0]):
             inner, head = parts[0], "Boxed" if type.name == "Box" else type.name
             written = Type("path", head + ("Slice" if inner.kind == "slice" else "Str"), inner.parts, type.line)
+        elif type.name in {"NonZero"} - own and [part.name in INTEGERS for part in parts] == [True]:
+            written = Type("path", f"NonZero{parts[0].name.capitalize()}", [], type.line)
         else:
             return type
         told.note(type.line, f"`{declared}` is written `{of_text(written)}`")

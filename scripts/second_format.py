@@ -501,6 +501,8 @@ def data_of(terms):
 
 # ---- the group
 
+IN_A_STRUCT = "an option of the type itself is supported in a struct only: add a variant without it"
+
 
 def refuse_large(item):
     """Refuses an enum with too many variants, or one of them with too many fields."""
@@ -560,9 +562,7 @@ class Shaped:
         self.options = []
         for field in fields_of(self.item):
             if Part(field.type, group).kind == "option":
-                raise Refused(
-                    field.line, "an option of the type itself is supported in a struct only: add a variant without it"
-                )
+                raise Refused(field.line, IN_A_STRUCT)
         for _, parts in self.variants:
             if len(parts) > 1:
                 with_list_inside(parts)
@@ -606,14 +606,56 @@ def inside_of(items):
         found = wider
 
 
-class Group:
+def parts_of(items):
+    """Of the names of a file's types: what is inside each, those above recursive ones, and those that a cycle holds."""
+    inside = inside_of(items)
+    recursive = {name for name in inside if name in inside[name]}
+    above = {name for name in inside if inside[name] & recursive}
+    return inside, above, recursive | {name for name in above if any(name in inside[other] for other in recursive)}
+
+
+class Fields:
+    """What fields may have, for a group of which no more is known."""
+
+    def __init__(self, items):
+        block = parts_of(items)[2]
+        self.named = {item.name: Shaped(item) for item in items if item.name in block}
+        self.own = {item.name: True for item in items if item.name not in block}
+        self.items = items
+
+    def refuse(self, told):
+        """Says what the second format does not have, of all fields of all types."""
+        for item in self.items:
+            for field in fields_of(item):
+                with told.going_on():
+                    if item.name not in self.named:
+                        tree_of(own_in(field.type, self.own | dict.fromkeys(self.named, True)), "left")
+                        continue
+                    part = Part(field.type, self)
+                    part.tree("left")
+                    if part.kind == "option" and not isinstance(item, Struct):
+                        raise Refused(field.line, IN_A_STRUCT)
+
+    def mentions(self, type_):
+        return type_.name in self.named and type_.kind == "path" or any(map(self.mentions, type_.parts))
+
+    def instead_of(self, type_):
+        """What to write where such a type is inside a recursive one."""
+        inner = type_.parts[0] if type_.kind == "array" or is_list(type_) else None
+        while inner and inner_of(inner, "Box"):
+            inner = inner.parts[0]
+        if inner and inner.name in self.named:
+            return f"write `Vec<{rust(inner)}>`"
+        if inner_of(type_, "PhantomData"):
+            return "remove the marker"
+        return "write a struct for what it holds, or a `Box`, a `Vec` or a map of the type itself"
+
+
+class Group(Fields):
     """The types of a file: those that contain themselves or each other, and the flat ones."""
 
     def __init__(self, items, crate):
-        inside = inside_of(items)
-        recursive = {name for name in inside if name in inside[name]}
-        above = {name for name in inside if inside[name] & recursive}
-        block = recursive | {name for name in above if any(name in inside[other] for other in recursive)}
+        inside, above, block = parts_of(items)
         self.crate, self.types = crate, [Shaped(item) for item in items if item.name in block]
         self.named = {shaped.name: shaped for shaped in self.types}
         self.lifetime = next((item.lifetime for item in items if item.lifetime), None)
@@ -662,20 +704,6 @@ class Group:
     def all_parts(self):
         for shaped in self.types:
             yield from shaped.parts if shaped.is_struct else [part for _, parts in shaped.variants for part in parts]
-
-    def mentions(self, type_):
-        return type_.name in self.named and type_.kind == "path" or any(map(self.mentions, type_.parts))
-
-    def instead_of(self, type_):
-        """What to write where such a type is inside a recursive one."""
-        inner = type_.parts[0] if type_.kind == "array" or is_list(type_) else None
-        while inner and inner_of(inner, "Box"):
-            inner = inner.parts[0]
-        if inner and inner.name in self.named:
-            return f"write `Vec<{rust(inner)}>`"
-        if inner_of(type_, "PhantomData"):
-            return "remove the marker"
-        return "write a struct for what it holds, or a `Box`, a `Vec` or a map of the type itself"
 
     def named_in_fields(self):
         """The names of types in the fields that are not those of the file."""

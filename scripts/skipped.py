@@ -7,7 +7,7 @@ from known_types import INTEGERS, MOST_FIELDS
 MARK = "#[skip]"
 ALLOWED = (
     "a skipped field is an integer, `bool`, `char`, `String`, a `Vec` or an `Option` of these: its default has to be"
-    " known"
+    " known. Move it to another struct, which holds this one"
 )
 
 
@@ -47,12 +47,15 @@ def default_of(type):
     return None
 
 
-def set_aside(item, told):
-    """The item with the fields that are written, and the others, with their places, apart."""
+def set_aside(item, faulty, told):
+    """The item with the fields that are written, and the others, with their places, apart. The name of one with a fault
+    is added to the faulty ones."""
+    faults = len(told.faults)
     if not isinstance(item, Struct):
         for field in fields_of(item):
             if MARK in field.attributes:
                 told.fault(field.line, "a variant has no skipped field: move it to a struct, which the variant holds")
+        faulty |= {item.name} if len(told.faults) > faults else set()
         return item
     marked = [(place, field) for place, field in enumerate(item.fields) if MARK in field.attributes]
     for _, field in marked:
@@ -73,6 +76,7 @@ def set_aside(item, told):
             )
         elif not default_of(field.type):
             told.fault(field.line, ALLOWED)
+    faulty |= {item.name} if len(told.faults) > faults else set()
     written = [field for field in item.fields if MARK not in field.attributes]
     skipped = tuple(
         (place, field._replace(attributes=[text for text in field.attributes if text != MARK]))

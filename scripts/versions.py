@@ -404,11 +404,14 @@ class Earlier:
     def of_field(self, field, version, taken, place):
         """The expression of a field, and what is said of its value: nothing, where it is the value at the place."""
         if not is_there(field, version):
-            value = default_of(field, self.own, self.lacking, self.crate, module_of)
-            self.names |= value.names
-            self.uses |= value.uses
-            self.needs_alloc |= "alloc" in value.text
-            return value.text, value.said
+            with self.versions.told.going_on():
+                value = default_of(field, self.own, self.lacking, self.crate, module_of)
+                self.names |= value.names
+                self.uses |= value.uses
+                self.needs_alloc |= "alloc" in value.text
+                return value.text, value.said
+            # The field is refused, and no file is written.
+            return taken, None
         if not self.versions.is_changed(field.type, version):
             return taken, None
         self.needs_alloc = True
