@@ -44,6 +44,12 @@ SCHEMAS = [
     ('{"root": {"Vec": {"tuple": ["u8", 3]}}}', "schema: at .root.Vec.tuple[1]: expected a type, found 3"),
     ('{"root": "A", "types": {"A": {"Vec": "A"}}}', "schema: the type is nested too deep, or recursive without an end"),
     ('{"root": "A", "types": {"A": "A"}}', "schema: the type contains only itself"),
+    ('{"root": "u8", "root": "u16"}', "schema: at .root: declared twice"),
+    ('{"root": "u8", "kind": 1}', "schema: at .kind: a schema has only `root` and `types`"),
+    ('{"root": "A", "types": {"A": "u8", "A": "u16"}}', "schema: at .types.A: declared twice"),
+    ('{"root": "u8", "types": {"u8": "u16"}}', "schema: at .types.u8: the format has a type of this name"),
+    ('{"root": {"struct": {"a": "u8", "a": "u16"}}}', "schema: at .root.struct.a: declared twice"),
+    ('{"root": {"enum": {"A": "()", "A": "u8"}}}', "schema: at .root.enum.A: declared twice"),
 ]
 
 
@@ -100,6 +106,23 @@ def large(program, work):
             yield f"{words}: {found}"
 
 
+def not_texts(program, work):
+    """What is wrong with the answers to JSON and to a schema that are not UTF-8."""
+    path, number = f"{work}/bytes.json", f"{work}/number.json"
+    with open(path, "wb") as file:
+        file.write(b'{"root": "\xff"}')
+    with open(number, "w") as file:
+        file.write('{"root": "u8"}')
+    rows = [
+        (path, b"1", 3, f"bitcode: schema {path}: the text is not UTF-8\n"),
+        (number, b"\xff", 1, "bitcode: JSON: the text is not UTF-8\n"),
+    ]
+    for schema_file, given, status, said in rows:
+        found = call(program, ["encode", "--schema", schema_file], given)
+        if found != (status, b"", said):
+            yield f"{schema_file}: {found}"
+
+
 def damages(whole):
     """The bytes cut off at each place, and with each byte changed."""
     for place in range(len(whole)):
@@ -121,7 +144,7 @@ def damaged(program, work):
 
 
 def main():
-    wrong = [line for part in (texts, large, damaged) for line in part(*sys.argv[1:3])]
+    wrong = [line for part in (texts, large, not_texts, damaged) for line in part(*sys.argv[1:3])]
     for line in wrong[:20]:
         print(f"command: {line}")
     sys.exit(1 if wrong else 0)

@@ -32,11 +32,16 @@ fn types_of(
 
 // The types that the bytes of a schema file declare.
 fn read_types(alloc: Global, path: &str, bytes: &[u8]) -> Result<Types, Failure> {
-    let text = text_of(alloc, Some(path), bytes)?;
-    match read_schema(alloc, text) {
+    match schema_of(alloc, bytes) {
         Ok(types) => Ok(types),
         Err(fault) => Err(Failure::of_schema(alloc, path, fault)),
     }
+}
+
+// The same, without the name of the file.
+fn schema_of(alloc: Global, bytes: &[u8]) -> Result<Types, Fault> {
+    let text = text_of(alloc, bytes)?;
+    read_schema(alloc, text)
 }
 
 // The format of the types.
@@ -183,7 +188,7 @@ pub fn encode(
     shows: bool,
 ) -> Result<(), Failure> {
     let given = read_given(rt, words, words.get_flag("second"), shows)?;
-    let text = text_of(rt.alloc(), words.get_str("file"), &given.bytes)?;
+    let text = text_of(rt.alloc(), &given.bytes)?;
     let bytes = encode_text(rt.alloc(), &given.typed, text)?;
     write_bytes(rt, words.get_str("output"), &bytes)
 }
@@ -211,7 +216,8 @@ pub fn check(
     let parts = parts_of(rt.alloc(), words, &given.bytes)?;
     check_parts(rt, words, &given.typed.format, &parts)?;
     let count = given.bytes.len();
-    println!(rt; "ok: {count} bytes")?;
+    let unit = if count == 1 { "byte" } else { "bytes" };
+    println!(rt; "ok: {count} {unit}")?;
     Ok(())
 }
 

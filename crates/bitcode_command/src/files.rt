@@ -1,5 +1,6 @@
 //! Reading what a call is given, and writing what it makes.
 use crate::failure::Failure;
+use crate::fault::Fault;
 use std::alloc::Global;
 use std::fs::{File, OpenFile};
 use std::io::{Read, Write};
@@ -68,14 +69,11 @@ fn show(rt: &impl Eprint, bytes: usize) -> io::Result<()> {
     eprint!(rt; "\r{megabytes} MB read")
 }
 
-/// The text that was read of a file, or of standard input.
-pub fn text_of<'a>(alloc: Global, path: Option<&str>, bytes: &'a [u8]) -> Result<&'a str, Failure> {
+/// The text of a schema or of JSON that was read.
+pub fn text_of(alloc: Global, bytes: &[u8]) -> Result<&str, Fault> {
     match str::from_utf8(bytes) {
         Ok(text) => Ok(text),
-        Err(_) => {
-            let error = io::Error::from(io::ErrorKind::InvalidData);
-            Err(Failure::of_file(alloc, path.unwrap_or(STANDARD_INPUT), error))
-        }
+        Err(_) => Err(Fault::new(alloc, "the text is not UTF-8")),
     }
 }
 

@@ -22,11 +22,25 @@ type Names<'a> = BTreeMap<&'a str, usize>;
 pub fn read_schema(alloc: Global, text: &str) -> Result<Types, Fault> {
     let mut scratch = Scratch::new(alloc);
     let file = parse(alloc, text, &mut scratch)?;
-    let Value::Object(_) = &file else {
+    let Value::Object(members) = &file else {
         return Err(expected(alloc, "an object with `root` and `types`", &file));
     };
+    check_members(alloc, members)?;
     let empty = Value::Object(Vec::new(alloc));
     read_file(alloc, &file, file.get("types").unwrap_or(&empty))
+}
+
+// A file has `root` and `types`, each once, and nothing else.
+fn check_members<'a>(alloc: Global, members: &[(&'a str, Value<'a>)]) -> Result<(), Fault> {
+    names_of(alloc, members)?;
+    for member in members {
+        if member.0 != "root" && member.0 != "types" {
+            return Err(Fault::new(alloc, "a schema has only `root` and `types`").in_field(
+                alloc, member.0,
+            ));
+        }
+    }
+    Ok(())
 }
 
 // The types that are declared in a file, and the node of the whole value.
@@ -35,7 +49,10 @@ fn read_file<'a>(alloc: Global, file: &Value<'a>, types: &Value<'a>) -> Result<T
         Ok(types) => types,
         Err(fault) => return Err(fault.in_field(alloc, "types")),
     };
-    let names = names_of(alloc, types)?;
+    let names = match names_of(alloc, types) {
+        Ok(names) => names,
+        Err(fault) => return Err(fault.in_field(alloc, "types")),
+    };
     let nodes = read_types(alloc, types, &names)?;
     let root = read_root(alloc, file, &names)?;
     Ok(Types { nodes, root })
@@ -71,14 +88,13 @@ fn items_of<'v, 'a>(alloc: Global, value: &'v Value<'a>) -> Result<&'v Vec<Value
     }
 }
 
-// The indices of types, which have different names.
-fn names_of<'a>(alloc: Global, types: &[(&'a str, Value<'a>)]) -> Result<Names<'a>, Fault> {
+// The indices of the members of an object, which have different names.
+fn names_of<'a>(alloc: Global, members: &[(&'a str, Value<'a>)]) -> Result<Names<'a>, Fault> {
     let mut names = BTreeMap::new(alloc);
-    for index in 0..types.len() {
-        let name = types[index].0;
+    for index in 0..members.len() {
+        let name = members[index].0;
         if names.insert(name, index)?.is_some() {
-            let fault = Fault::new(alloc, "declared twice");
-            return Err(fault.in_field(alloc, name).in_field(alloc, "types"));
+            return Err(Fault::new(alloc, "declared twice").in_field(alloc, name));
         }
     }
     Ok(names)
@@ -92,12 +108,25 @@ fn read_types<'a>(
 ) -> Result<Vec<Node>, Fault> {
     let mut nodes = Vec::new(alloc);
     for member in types {
-        match read_node(alloc, &member.1, names, MOST_DEEP) {
+        match read_type(alloc, member.0, &member.1, names) {
             Ok(node) => nodes.push(node)?,
             Err(fault) => return Err(fault.in_field(alloc, member.0).in_field(alloc, "types")),
         }
     }
     Ok(nodes)
+}
+
+// The node of a declared type, which may not have the name of a type of the format.
+fn read_type<'a>(
+    alloc: Global,
+    name: &str,
+    value: &Value<'a>,
+    names: &Names<'a>,
+) -> Result<Node, Fault> {
+    match leaf(name) {
+        Some(_) => Err(Fault::new(alloc, "the format has a type of this name")),
+        None => read_node(alloc, value, names, MOST_DEEP),
+    }
 }
 
 // A node: a name, or an object of one member.
@@ -287,8 +316,10 @@ fn read_members<'a>(
     names: &Names<'a>,
     left: usize,
 ) -> Result<Node, Fault> {
+    let declared = members_of(alloc, value)?;
+    names_of(alloc, declared)?;
     let mut members = Vec::new(alloc);
-    for member in members_of(alloc, value)? {
+    for member in declared {
         match read_node(alloc, &member.1, names, left) {
             Ok(node) => push_member(alloc, &mut members, member.0, node)?,
             Err(fault) => return Err(fault.in_field(alloc, member.0)),
