@@ -13,6 +13,7 @@ from known_types import MOST_FIELDS
 from lengths import NUMBER, Sum
 from names import module_of
 from second_format_std import ADDRESSES, LISTS, RANGES, TEXTS, instead_of
+from structs import QUOTED
 from tokens import Refused, Told
 
 LIBRARY = (
@@ -67,8 +68,8 @@ def rust(type_):
 
 # Names of types for which the library has words as those that are made of a type's name, such as `text_tree`.
 LIBRARYS = set(
-    "array at bool char choice field float integer map natural never option ordering repeated result seq set text tuple "
-    "unit".split()
+    "array at bool char choice field float integer map natural never no option ordering repeated result seq set text "
+    "tuple unit".split()
 )
 
 
@@ -233,10 +234,10 @@ class Part:
 
     def function(self):
         """The function that reads it."""
-        name = {"list": "_list", "option": "_option"}.get(self.kind, "")
         if self.kind == "map":
-            name = f"_{'by' if self.type.name == 'BTreeMap' else 'hashed_by'}_{self.type.parts[0].name.lower()}"
-        return f"read_{self.of.word}{name}"
+            by = "by" if self.type.name == "BTreeMap" else "hashed_by"
+            return f"read_{self.of.inner(f'{by}_{self.type.parts[0].name.lower()}')}"
+        return f"read_{self.of.inner(self.kind) if self.kind in ('list', 'option') else self.of.word}"
 
     def in_step(self, value):
         """Its content where the content of each value of the group stands in its place."""
@@ -270,10 +271,11 @@ class Part:
         return "refl" if self.kind in ("list", "option", "map") else f"{self.of.word}_columns ({n})"
 
 
-# What the functions that read fields call other things, and words of antt's.
-# what the body of `write` names
-WRITE = {"below", "err", "left", "place", "self", "write_tuple", "write_variant", "writer"}
-TAKEN = set(
+# what the body of `write` names, and the equation of a variant in its proofs
+WRITE = {"below", "err", "is", "left", "place", "self", "write_tuple", "write_variant", "writer", *QUOTED}
+# what the functions that read fields call other things, the functions that they call, and words of antt's
+TAKEN = QUOTED | set(
+    "fields find_field follow enter_list enter_map enter_variant ordered_map hashed_map "
     "alloc reader budget left place below found item made pairs key keys value values items abbrev absurd cc data elim "
     "grind hlevel infix infixl infixr module omega open opaque postfix prefix prim record rules ruleset rw search simp "
     "subst suffices syntax tt unfold unfoldable unfolding variant then at with do case of end by is not was now old new "
@@ -287,7 +289,7 @@ def local_names(fields):
         field.name
         if re.fullmatch(r"[a-z][a-z0-9]*(_[a-z0-9]+)*", field.name)
         and field.name not in TAKEN
-        and not re.fullmatch(r"(place|found|value|field|k)\d+", field.name)
+        and not re.fullmatch(r"(place|found|value|field|k)\d+|read_.*", field.name)
         else f"field{n}"
         for n, field in enumerate(fields)
     ]
@@ -297,14 +299,17 @@ def bound_names(variant):
     """Names for the fields of a variant that is written: their own, unless the body of `write` has one of them."""
     if variant.kind != "named":
         return [f"x{n}" for n in range(len(variant.fields))]
-    return [f"x{n}" if field.name in WRITE else field.name for n, field in enumerate(variant.fields)]
+    return [
+        f"x{n}" if field.name in WRITE or re.fullmatch(r"x\d+", field.name) else field.name
+        for n, field in enumerate(variant.fields)
+    ]
 
 
 def bound(variant):
     """The pattern of a variant that is written, without its name."""
     names = bound_names(variant)
     if not names:
-        return ""
+        return {"unit": "", "tuple": "()", "named": " {}"}[variant.kind]
     if variant.kind != "named":
         return f"({', '.join(names)})"
     fields = [name if name == field.name else f"{field.name}: {name}" for field, name in zip(variant.fields, names)]
@@ -533,9 +538,10 @@ class Flat:
 
 
 class Shaped:
-    """A type that contains itself, or one between two such types."""
+    """A type that contains itself, or one between two such types. `words` has the words for all types of the file."""
 
-    def __init__(self, item):
+    def __init__(self, item, words):
+        self.words, self.fields_words = words, {}
         self.item, self.name, self.word = item, item.name, word_of(item.name)
         self.of = f"{item.name}<{item.lifetime}>" if item.lifetime else item.name
         self.parameter = f"<{item.lifetime}>" if item.lifetime else ""
@@ -551,7 +557,8 @@ class Shaped:
             if self.options and maps:
                 raise Refused(
                     maps[0].type.line,
-                    "a struct with an option and a map of itself is not supported: move the map to another struct",
+                    "a struct with an option and a map of itself is not supported: for the option, write an enum of your own"
+                    f" with the variants `None` and `Some(Box<{self.of}>)`",
                 )
             return
         self.variants = [
@@ -582,11 +589,33 @@ class Shaped:
     def tree_word(self):
         return "tuple_tree" if self.is_struct else "choice_tree"
 
+    def inner(self, kind):
+        """The word for lists or the like of it. `ExprList` may be a type of the file, too."""
+        word = f"{self.word}_{kind}"
+        return f"{kind}_of_{self.word}" if word in self.words else word
+
+    def fields_word(self, variant):
+        """The word for the fields of a variant."""
+        return self.fields_words[variant.name]
+
 
 def payload_tree(parts, left):
     if not parts:
         return "unit_tree"
     return parts[0].tree(left) if len(parts) == 1 else f"(tuple_tree {trees_of(parts, left)})"
+
+
+def pointed(type_):
+    """The type behind pointers."""
+    while any(inner_of(type_, name) for name in HOLDERS):
+        type_ = type_.parts[0]
+    return type_
+
+
+def held_by_struct(type_):
+    """What to write where a type is not supported that would be one by one."""
+    what = "fields for its parts" if type_.kind == "tuple" else f"a field of the type `{rust(type_)}`"
+    return f"write a struct of your own with {what} in the place of `{rust(type_)}`"
 
 
 def names_in(type_, named):
@@ -614,11 +643,13 @@ class Group:
         recursive = {name for name in inside if name in inside[name]}
         above = {name for name in inside if inside[name] & recursive}
         block = recursive | {name for name in above if any(name in inside[other] for other in recursive)}
-        self.crate, self.types = crate, [Shaped(item) for item in items if item.name in block]
+        words = {word_of(item.name) for item in items}
+        self.crate, self.types = crate, [Shaped(item, words) for item in items if item.name in block]
         self.named = {shaped.name: shaped for shaped in self.types}
         self.lifetime = next((item.lifetime for item in items if item.lifetime), None)
         self.module = module_of(items[0].name)
         self.specs = f"{items[0].name}Shape"
+        self.refuse_types(items)
         # those that are inside others come first, and `own` says which have columns
         self.own, self.flats = {}, {}
         flat = sorted((item for item in items if item.name not in block), key=lambda item: len(inside[item.name]))
@@ -627,8 +658,11 @@ class Group:
                 self.flats[item.name] = Flat(item, self.own)
                 self.own[item.name] = self.flats[item.name].has_columns()
         self.below = list(self.flats.values())
+        told = Told()
         for shaped in self.types:
-            shaped.fill(self)
+            with told.going_on():
+                shaped.fill(self)
+        told.stop()
         own = self.own | {name: True for name in block}
         for item in flat:
             if item.name in above:
@@ -658,6 +692,32 @@ class Group:
             for variant, parts in shaped.variants
             if len(parts) > 1
         ]
+        self.name_fields()
+
+    def refuse_types(self, items):
+        """Refuses what the fields have that the second format has not, all of it."""
+        told, flat = Told(), {item.name: True for item in items if item.name not in self.named}
+        self.own = flat
+        for item in items:
+            with told.going_on():
+                refuse_large(item)
+            for field in fields_of(item):
+                with told.going_on():
+                    if item.name in self.named:
+                        Part(field.type, self).tree("left")
+                    else:
+                        tree_of(own_in(field.type, flat | {name: True for name in self.named}), "left")
+        told.stop()
+
+    def name_fields(self):
+        """Gives the fields of each variant a word that means nothing else: `ExprCall` may be a type of the file, too."""
+        taken = {one.word for one in self.all}
+        taken |= {shaped.inner(kind) for shaped in self.types for kind in ("list", "option")}
+        taken |= {part.function().removeprefix("read_") for part in self.maps}
+        for shaped, variant, _ in self.payloads:
+            word = f"{shaped.word}_{module_of(variant.name)}"
+            shaped.fields_words[variant.name] = f"fields_of_{word}" if word in taken else word
+            taken.add(word)
 
     def all_parts(self):
         for shaped in self.types:
@@ -668,14 +728,29 @@ class Group:
 
     def instead_of(self, type_):
         """What to write where such a type is inside a recursive one."""
-        inner = type_.parts[0] if type_.kind == "array" or is_list(type_) else None
-        while inner and inner_of(inner, "Box"):
-            inner = inner.parts[0]
-        if inner and inner.name in self.named:
-            return f"write `Vec<{rust(inner)}>`"
         if inner_of(type_, "PhantomData"):
             return "remove the marker"
-        return "write a struct for what it holds, or a `Box`, a `Vec` or a map of the type itself"
+        inner = pointed(type_)
+        if inner is not type_:
+            return f"write `Box<{rust(inner)}>`" if inner.name in self.named else f"write `{rust(inner)}`"
+        is_vec = inner_of(type_, "Vec")
+        if is_vec or type_.kind == "array" or is_list(type_):
+            inner = pointed(type_.parts[0])
+            if inner.name in self.named or not is_vec:
+                return f"write `Vec<{rust(inner)}>`"
+            return self.instead_of(inner) if inner.name in ("Option", "Result") else held_by_struct(inner)
+        if is_map(type_):
+            key, inner = type_.parts[0], pointed(type_.parts[1])
+            if inner.name in self.named:
+                return f"write `{type_.name}<{rust(key)}, {rust(inner)}>`"
+            return self.instead_of(inner) if inner.name in ("Option", "Result") else held_by_struct(inner)
+        if inner_of(type_, "Option"):
+            inner = pointed(type_.parts[0])
+            held = f"Box<{rust(inner)}>" if inner.name in self.named else rust(inner)
+            return f"write an enum of your own with the variants `None` and `Some({held})`"
+        if is_result(type_):
+            return "write an enum of your own with the variants `Ok` and `Err`"
+        return held_by_struct(type_)
 
     def named_in_fields(self):
         """The names of types in the fields that are not those of the file."""

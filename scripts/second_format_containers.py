@@ -4,7 +4,7 @@ from second_format import tree_of
 from second_format_text import list_datum, option_datum
 
 def option_answers(group, shaped):
-    w, fn = shaped.word, f"read_{shaped.word}_option"
+    w, fn = shaped.word, f"read_{shaped.inner('option')}"
     trees = f"(tree_and unit_tree (tree_and ({w}_tree c.args.left) no_trees))"
     entered = f"{trees} {{}} c.in_ok-found.ensures.enters (omega (arith, c.in_ok-found.ensures.known))"
     return f"""
@@ -44,7 +44,7 @@ def has_many_fields(shaped):
 
 def list_keep_answer(shaped):
     """That a list that does not grow is a refusal for want of memory."""
-    fn = f"read_{shaped.word}_list"
+    fn = f"read_{shaped.inner('list')}"
     tree = f"(seq_tree ({shaped.word}_tree c.args.left))"
     return f"""
 pub {fn}-returns-in_err-keep-clause-refused : goal.{fn}-returns-in_err-keep-clause-refused
@@ -56,7 +56,7 @@ pub {fn}-returns-in_err-keep-clause-refused : goal.{fn}-returns-in_err-keep-clau
 
 
 def list_answers(shaped):
-    w, one, fn = shaped.word, f"read_{shaped.word}", f"read_{shaped.word}_list"
+    w, one, fn = shaped.word, f"read_{shaped.word}", f"read_{shaped.inner('list')}"
     return f"""
 pub {fn}-{one}-requires : goal.{fn}-{one}-requires
 {fn}-{one}-requires t c =

@@ -3,18 +3,28 @@ each variant of an enum holds such a tuple, so that they are read and written by
 
 import re
 
-from second_format import SIGNED, applied, bound, bound_names, data_of, datum_of, field_in, rust, sound_of, sounds, tree_of, trees_and
+from second_format import (
+    SIGNED,
+    applied,
+    bound,
+    bound_names,
+    data_of,
+    datum_of,
+    field_in,
+    local_names,
+    rust,
+    sound_of,
+    sounds,
+    tree_of,
+    trees_and,
+)
 from second_format_text import built, nested
+from structs import quoted
 
 
 def has_signed(types):
     """Whether a signed number is among what the types hold: it is told otherwise in a value than in a clause."""
     return any(name in SIGNED for type_ in types for name in re.findall(r"\w+", rust(type_)))
-
-
-def names_of(flat):
-    """Names for the fields of the struct."""
-    return [f"field{field.name}" if field.name.isdigit() else field.name for field in flat.item.fields]
 
 
 def tuple_of_types(flat):
@@ -94,7 +104,7 @@ def written(flat):
 def read(flat):
     """The body of `read`."""
     if flat.is_struct:
-        names = names_of(flat)
+        names = local_names(flat.item.fields)
         return (
             f"        let fields: {tuple_of_types(flat)} = read_tuple(alloc, reader, budget, left, place, {len(names)})?;\n"
             f"        let {nested(names).replace('()', '_end')} = fields;\n"
@@ -156,7 +166,7 @@ def struct_read(flat):
     kept = "kept_otherwise _ _ _ _ _ _ _ _ refl c.in_ok-fields.ensures.read"
     if has_signed(flat.held):
         fields = [
-            f"{field.name} = c.in_ok-fields.fields{'.1' * n}.0" for n, field in enumerate(flat.item.fields)
+            f"{quoted(field.name)} = c.in_ok-fields.fields{'.1' * n}.0" for n, field in enumerate(flat.item.fields)
         ]
         value = f"(record {{ {'; '.join(fields)} }})"
         kept = f"""

@@ -13,7 +13,8 @@ from second_format_containers import (
     option_answers,
 )
 from second_format_std import WORDS_OF_STD
-from second_format_text import WORDS, payload_datum, used, variant_name
+from second_format_text import WORDS, payload_datum, used
+from structs import quoted
 
 OF_LEMMAS = [
     ("std.proofs.Common", "◌≡◌ Option Some None Box Global map refl ap ◌∙◌ string_bytes"),
@@ -41,7 +42,7 @@ def own_imports(group, text, with_lemmas=True):
     own = " ".join(
         f"{shaped.word}_tree {shaped.word}_trees {shaped.word}_step {shaped.word}_datum" for shaped in group.types
     )
-    own += " " + " ".join(f"{variant_name(shaped, variant)}_trees" for shaped, variant, _ in group.payloads)
+    own += " " + " ".join(f"{shaped.fields_word(variant)}_trees" for shaped, variant, _ in group.payloads)
     found = used([(f"{group.crate}.specs.{group.specs}", own)], text)
     place = f"{group.crate}.specs.declared.{group.module}"
     for shaped in group.types:
@@ -137,7 +138,7 @@ def content_lemma(group, shaped, is_made):
         for field in shaped.item.fields:
             place = shaped.options.index(field.name) if field.name in shaped.options else None
             fields.append(
-                f"{field.name} = "
+                f"{quoted(field.name)} = "
                 + (f"{own}.{field.name}" if place is None or place > n else "z" if place == n else f"o{place}")
             )
         turns += (
@@ -374,7 +375,7 @@ pub {goal} : goal.{goal}
 {lets(trees, parts, n) if n else ''}{turn(inner)}"""
     last = len(parts)
     kept = f"all_fields_kept k{last} c.args.budget.now c.take.ensures {datum} {value} ({equation})"
-    if has_signed(parts):
+    if has_signed_field(parts):
         kept = f"let k = {kept} in search (rules, k)"
     read = f"rw {FOLLOWED} ({kept})" if is_deep else kept
     goal = f"{fn}-returns"
@@ -388,7 +389,8 @@ pub {goal} : goal.{goal}
     )
 
 
-def has_signed(parts):
+def has_signed_field(parts):
+    """Whether a field itself is a signed number: it is told otherwise in a value than in a clause."""
     return any(part.kind == "other" and part.rust in SIGNED for part in parts)
 
 
@@ -413,7 +415,7 @@ def raise_on_boxes(shaped):
 
 def struct_answers(group, shaped):
     w, fn = shaped.word, f"read_{shaped.word}"
-    fields = "; ".join(f"{field.name} = {value_of(part)}" for field, part in zip(shaped.item.fields, shaped.parts))
+    fields = "; ".join(f"{quoted(field.name)} = {value_of(part)}" for field, part in zip(shaped.item.fields, shaped.parts))
     value = f"(record {{ {fields} }})"
     values = [value_of(part) for part in shaped.parts]
     equation = f"fold-roll-{shaped.name} {group.fold(shaped)} {value}" + maps_told(shaped.parts, values, tuple_of)
@@ -479,12 +481,12 @@ pub {goal} : goal.{goal}
     (variant_refused {entered}
     {left_through(f'{name}-{where}')} {bad}.ensures.refused)
 """
-    value = f"({shaped.word}'.{variant.name} {ok}.held)" if len(parts) == 1 and has_signed(parts) else "_"
+    value = f"({shaped.word}'.{variant.name} {ok}.held)" if len(parts) == 1 and has_signed_field(parts) else "_"
     kept = (
         f"variant_kept {entered}\n"
         f"    c.args.budget.now c.enter_variant.ensures.taken {ok}.ensures.read {w}_datum {value} ({equation})"
     )
-    if has_signed(parts):
+    if has_signed_field(parts):
         kept = f"let k = {kept} in\n    search (rules, k)"
     goal = f"{fn}-returns-in_ok-held-{where}"
     return (
@@ -511,7 +513,7 @@ def reading(group):
     for shaped in group.types:
         text += struct_answers(group, shaped) if shaped.is_struct else enum_answers(group, shaped)
     for shaped, variant, parts in group.payloads:
-        name = variant_name(shaped, variant)
+        name = shaped.fields_word(variant)
         text += fields_answers(
             f"read_{name}", f"tuple_tree ({name}_trees c.args.left)", f"{name}_trees c.args.left", parts, False, payload_datum(parts), "_", boxes(parts)
         )
@@ -557,18 +559,18 @@ def invariants(group):
     for shaped in group.types:
         text += f"\nabbrev pub decreases-read_{shaped.word} : goal.decreases-read_{shaped.word}\ndecreases-read_{shaped.word} l = {measure}\n"
     for shaped, variant, _ in group.payloads:
-        name = variant_name(shaped, variant)
+        name = shaped.fields_word(variant)
         text += f"\nabbrev pub decreases-read_{name} : goal.decreases-read_{name}\ndecreases-read_{name} l = 3 * l.left + 2\n"
     for shaped in group.types:
         if shaped.is_struct:
             text += invariant_inside(f"read_{shaped.word}", shaped.parts, "l.below")
     for shaped, variant, parts in group.payloads:
-        text += invariant_inside(f"read_{variant_name(shaped, variant)}", parts, "l.left")
+        text += invariant_inside(f"read_{shaped.fields_word(variant)}", parts, "l.left")
     for shaped in group.options:
-        fn = f"read_{shaped.word}_option"
+        fn = f"read_{shaped.inner('option')}"
         text += f"\nabbrev pub decreases-{fn} : goal.decreases-{fn}\ndecreases-{fn} l = 3 * l.left + 1\n"
     for shaped in group.lists:
-        fn = f"read_{shaped.word}_list"
+        fn = f"read_{shaped.inner('list')}"
         text += f"\nabbrev pub decreases-{fn} : goal.decreases-{fn}\ndecreases-{fn} l = 3 * l.left + 1\n"
         text += f"""
 abbrev pub invariant-{fn}-loop-i : goal.invariant-{fn}-loop-i

@@ -5,7 +5,6 @@ import re
 from second_format import LIBRARY, MAPS, applied, bound, bound_names, data_of, field_in, payload_tree, sounds, trees_of
 from second_format_std import TYPES_OF_STD, WORDS_OF_STD
 from declarations import Struct
-from names import module_of
 from structs import declaration as struct_declaration
 from variants import declaration as enum_declaration
 
@@ -31,10 +30,6 @@ def imports(groups, text, form):
 
 def used(groups, text):
     return imports(groups, text, lambda module, found: f"use Rattle.{module}.{{{', '.join(found)}}}\n")
-
-
-def variant_name(shaped, variant):
-    return f"{shaped.word}_{module_of(variant.name)}"
 
 
 # ---- definitions
@@ -130,7 +125,7 @@ def cycle_specs(group):
             "",
         ]
     for shaped, variant, parts in group.payloads:
-        name = variant_name(shaped, variant)
+        name = shaped.fields_word(variant)
         lines += [f"abbrev pub {name}_trees : ℕ → ShapeTrees", f"{name}_trees left = {trees_of(parts, 'left')}", ""]
     data = " ".join("Datum" for _ in group.types)
     lines.append("-- one level, with the content of each value inside in its place")
@@ -261,8 +256,8 @@ def built(owner, fields, kind, names):
         each = [
             name if name == field.name else f"{field.name}: {name}" for field, name in zip(fields, names)
         ]
-        return f"{owner} {{ {', '.join(each)} }}"
-    return f"{owner}({', '.join(names)})" if names else owner
+        return f"{owner} {{ {', '.join(each)} }}" if each else f"{owner} {{}}"
+    return f"{owner}({', '.join(names)})" if kind == "tuple" else owner
 
 
 DEEP = "    let below = follow(left)?;\n"
@@ -275,7 +270,7 @@ def reading(group):
         if shaped.is_struct:
             body += "    budget.take(1);\n" + fields_read(shaped.parts, "below")
             names = [part.local for part in shaped.parts]
-            body += f"    Ok({built(shaped.name, shaped.item.fields, 'named', names)})\n"
+            body += f"    Ok({built(shaped.name, shaped.item.fields, shaped.item.kind, names)})\n"
         else:
             body += f"    let found = enter_variant(reader, budget, {len(shaped.variants)}, Reason::InvalidEnumVariant, place)?;\n    match found.index {{\n"
             for index, (variant, parts) in enumerate(shaped.variants):
@@ -291,7 +286,7 @@ def reading(group):
             body,
         )
     for shaped, variant, parts in group.payloads:
-        name = variant_name(shaped, variant)
+        name = shaped.fields_word(variant)
         body = (
             "    budget.take(1);\n"
             + fields_read(parts, "left")
@@ -318,7 +313,7 @@ def reading(group):
 """
         text += reads(
             group,
-            f"read_{shaped.word}_option",
+            f"read_{shaped.inner('option')}",
             f"Option<Box<{shaped.of}>>",
             f"(option_tree ({shaped.word}_tree left))",
             option_datum(shaped),
@@ -336,7 +331,7 @@ def reading(group):
 """
         text += reads(
             group,
-            f"read_{shaped.word}_list",
+            f"read_{shaped.inner('list')}",
             f"Vec<{shaped.of}>",
             f"(seq_tree ({shaped.word}_tree left))",
             list_datum(shaped),
@@ -388,14 +383,14 @@ def arm(group, shaped, variant, parts):
     indent = " " * 12
     owner = f"{shaped.name}::{variant.name}"
     if not parts:
-        return f"{indent}budget.take(1);\n{indent}Ok({owner})\n"
+        return f"{indent}budget.take(1);\n{indent}Ok({built(owner, variant.fields, variant.kind, [])})\n"
     if len(parts) == 1:
         if parts[0].kind == "other":
             text = f"{indent}let held: {parts[0].rust} = read_at(alloc, reader, budget, below, found.place)?;\n"
         else:
             text = held_read(parts[0], "below", "found.place", "held", "value", indent)
         return text + f"{indent}Ok({built(owner, variant.fields, variant.kind, ['held'])})\n"
-    text = f"{indent}let held = read_{variant_name(shaped, variant)}(alloc, reader, budget, below, found.place)?;\n"
+    text = f"{indent}let held = read_{shaped.fields_word(variant)}(alloc, reader, budget, below, found.place)?;\n"
     return (
         text
         + f"{indent}Ok({built(owner, variant.fields, variant.kind, [f'held.{place}' for place in range(len(parts))])})\n"
@@ -479,10 +474,10 @@ def code(group):
     for shaped in group.all:
         text = (struct_declaration if shaped.is_struct else enum_declaration)(shaped.item)
         cycle = f"#[cycle({group.module}_types)]\n" if shaped in group.types and len(group.types) > 1 else ""
-        declared += "\n" + re.sub(r"^(?=#\[derive|pub |struct |enum )", cycle, text.strip(), count=1, flags=re.M) + "\n"
+        declared += "\n" + re.sub(r"^(?=#\[derive|pub[ (]|struct |enum )", cycle, text.strip(), count=1, flags=re.M) + "\n"
     text = declared + "".join(impls(group, one) for one in group.all)
     own = " ".join(f"{shaped.word}_tree {shaped.word}_trees {shaped.word}_datum" for shaped in group.types)
-    own += " " + " ".join(f"{variant_name(shaped, variant)}_trees" for shaped, variant, _ in group.payloads)
+    own += " " + " ".join(f"{shaped.fields_word(variant)}_trees" for shaped, variant, _ in group.payloads)
     functions = reading(group)
     text += functions
     names = ", ".join(f"`{one.name}`" for one in group.all)
