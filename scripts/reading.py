@@ -8,7 +8,8 @@ from skipped import set_aside
 
 
 def read(text, told):
-    """The types that the text declares, without names for types and lengths, what it imports, and the types with faults."""
+    """The types that the text declares, without names for types and lengths, what it imports, and the types with
+    faults."""
     parser = Parser(text, told)
     parser.file()
     items = WrittenOut(parser.consts, parser.aliases, told).items(parser.items, parser.faulty)

@@ -24,7 +24,7 @@ LEAVES |= {
     "SocketAddrV6": SOCKETS["V6"],
     "SocketAddr": {"enum": SOCKETS},
 }
-# What they are in the second format: an address is a tuple of its octets, and a socket has no more than it and the port.
+# What they are in the second format: an address is a tuple of its octets, and a socket has only it and the port.
 OCTETS = {"V4": {"array": ["u8", 4]}, "V6": {"array": ["u8", 16]}}
 PORTS = {name: {"struct": {"ip": octets, "port": "u16"}} for name, octets in OCTETS.items()}
 IN_SECOND = {

@@ -17,8 +17,8 @@ from structs import QUOTED
 from tokens import Refused, Told
 
 LIBRARY = (
-    "bitcode_memory bitcode_columns bitcode_int_columns bitcode_float_columns bitcode_shapes bitcode_coder bitcode_ints "
-    "bitcode_floats bitcode_untyped bitcode_serde bitcode_serde_types"
+    "bitcode_memory bitcode_columns bitcode_int_columns bitcode_float_columns bitcode_shapes bitcode_coder "
+    "bitcode_ints bitcode_floats bitcode_untyped bitcode_serde bitcode_serde_types"
 )
 
 # ---- types
@@ -278,8 +278,8 @@ TAKEN = QUOTED | set(
     "fields find_field follow enter_list enter_map enter_variant ordered_map hashed_map "
     "alloc reader budget left place below found item made pairs key keys value values items abbrev absurd cc data elim "
     "grind hlevel infix infixl infixr module omega open opaque postfix prefix prim record rules ruleset rw search simp "
-    "subst suffices syntax tt unfold unfoldable unfolding variant then at with do case of end by is not was now old new "
-    "result self data".split()
+    "subst suffices syntax tt unfold unfoldable unfolding variant then at with do case of end by is not was now old "
+    "new result self data".split()
 )
 
 
@@ -529,7 +529,9 @@ class Flat:
         # the types of a struct's fields, or those of each variant's
         self.held = [own_in(field.type, own) for field in item.fields] if self.is_struct else None
         self.variants = (
-            [] if self.is_struct else [(one, [own_in(field.type, own) for field in one.fields]) for one in item.variants]
+            []
+            if self.is_struct
+            else [(one, [own_in(field.type, own) for field in one.fields]) for one in item.variants]
         )
         refuse_large(item)
 
@@ -557,8 +559,8 @@ class Shaped:
             if self.options and maps:
                 raise Refused(
                     maps[0].type.line,
-                    "a struct with an option and a map of itself is not supported: for the option, write an enum of your own"
-                    f" with the variants `None` and `Some(Box<{self.of}>)`",
+                    "a struct with an option and a map of itself is not supported: for the option, write an enum of"
+                    f" your own with the variants `None` and `Some(Box<{self.of}>)`",
                 )
             return
         self.variants = [
@@ -710,7 +712,7 @@ class Group:
         told.stop()
 
     def name_fields(self):
-        """Gives the fields of each variant a word that means nothing else: `ExprCall` may be a type of the file, too."""
+        """Gives the fields of each variant a word that means nothing else. `ExprCall` may be a type of the file."""
         taken = {one.word for one in self.all}
         taken |= {shaped.inner(kind) for shaped in self.types for kind in ("list", "option")}
         taken |= {part.function().removeprefix("read_") for part in self.maps}

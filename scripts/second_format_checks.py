@@ -30,7 +30,7 @@ LIBRARYS = {
 
 
 class SecondChecker(Checker):
-    """Whether the second format has the types of an item's fields, however deep; the group sees to what is recursive."""
+    """Whether the second format has the types of an item's fields. The group sees to what is recursive."""
 
     def path(self, type):
         if type.name == self.item.name:
