@@ -475,10 +475,11 @@ def sounds(each):
 
 
 def has_columns(type_):
+    """Whether its form alone proves that it has columns; a tuple's first field does."""
     if type_.kind == "own":
         return type_.columns
     if type_.kind == "tuple":
-        return any(map(has_columns, type_.parts[:1])) and True if type_.parts else False
+        return bool(type_.parts) and has_columns(type_.parts[0])
     if type_.kind == "array":
         return length_of(type_) > 0 and has_columns(type_.parts[0])
     if inner_of(type_, "PhantomData"):
@@ -508,8 +509,12 @@ def data_of(terms):
 
 
 def refuse_large(item):
-    """Refuses an enum with too many variants, or one of them with too many fields."""
+    """Refuses a struct with too many fields, or an enum with too many variants, or one of them with too many fields."""
     if isinstance(item, Struct):
+        # the checker stops at its step limit where it is to prove that 24 nested references live long enough
+        if len(item.fields) > MOST_FIELDS:
+            why = "a struct has at most 16 fields in the second format: write structs for some of them"
+            raise Refused(item.line, why)
         return
     if len(item.variants) > 256:
         raise Refused(item.line, "an enum has at most 256 variants")
