@@ -723,7 +723,9 @@ class Group:
         taken |= {part.function().removeprefix("read_") for part in self.maps}
         for shaped, variant, _ in self.payloads:
             word = f"{shaped.word}_{module_of(variant.name)}"
-            shaped.fields_words[variant.name] = f"fields_of_{word}" if word in taken else word
+            while word in taken:
+                word = f"fields_of_{word}"
+            shaped.fields_words[variant.name] = word
             taken.add(word)
 
     def all_parts(self):
