@@ -1,5 +1,5 @@
-"""The types of the standard library that scripts/second_format knows: what each is in the second format, and the words of
-specs that say so."""
+"""The types of the standard library that scripts/second_format knows: what each is in the second format, and the words
+of specs that say so."""
 
 from known_types import INSTEAD, TYPES
 
