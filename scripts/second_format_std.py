@@ -44,7 +44,7 @@ WORDS_OF_STD = [
     ("std.specs.Rc", "rc_value rc_slice_items rc_str_bytes"),
     ("std.specs.VecDeque", "deque_items"),
     ("bitcode_shapes.specs.Addresses", "ip_family socket_family"),
-    ("bitcode_serde_types.specs.Arrays", "array_tree array_datum repeated repeated_sound"),
+    ("bitcode_serde_types.specs.Arrays", "array_tree array_datum repeated_sound repeated_plain"),
     ("bitcode_serde_types.specs.Orderings", "ordering_tree ordering_datum"),
 ]
 

@@ -46,16 +46,7 @@ OF_SPECS = [
     ("std.specs.Float", "binary32 binary64"),
     *WORDS_OF_STD,
     ("bitcode_serde_types.specs.Written", WORDS),
-    ("bitcode_serde_types.specs.Restates", "HaveNoMap"),
 ]
-
-
-REPEATED = """-- there is no map in the elements of an array, if there is none in their shape
-repeated_plain : (n : ℕ) (s : ShapeTree) → HasNoMap s → HaveNoMap (repeated n s)
-repeated_plain zero s h = tt
-repeated_plain (suc n) s h = (h, repeated_plain n s h)
-
-"""
 
 
 def specs(group):
@@ -70,7 +61,6 @@ def specs(group):
     for flat in group.above:
         lines += with_plain(flat_specs(flat), [flat], mapped)
     text = "\n".join(lines).rstrip() + "\n"
-    text = REPEATED + text if "repeated_plain" in text else text
     names = ", ".join(f"`{one.name}`" for one in group.all)
     head = f"-- The shapes of {names}, and the content of their values. Written by `scripts/second_format`.\n" + used(
         OF_SPECS, text
