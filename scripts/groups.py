@@ -4,7 +4,8 @@ contains these or is inside them."""
 import second_format_proofs
 from known_types import names_in
 from declarations import fields_of
-from second_format import LIBRARY, Fields, Group
+from second_format import LIBRARY, Group
+from second_format_checks import checked
 from second_format_text import code, specs
 
 MARK = "#[second_format]"
@@ -30,14 +31,10 @@ def inside_of(items):
         found = wider
 
 
-def parted_by_format(items, told):
-    """The types for the first format, and the groups of those for the second one."""
-    inside = inside_of(items)
-    second = {item.name for item in items if item.name in inside[item.name] or MARK in item.attributes}
-    second |= {name for name, names in inside.items() if names & second}
-    held = set().union(*(inside[name] for name in second))
+def refuse_of_first(items, told):
+    """Refuses what only types of the first format have."""
     for item in items:
-        if item.name in second | held and (item.types or item.consts):
+        if item.types or item.consts:
             told.fault(
                 item.line,
                 (
@@ -45,16 +42,31 @@ def parted_by_format(items, told):
                     " without them"
                 ),
             )
-        if item.name in second | held and any(text.startswith("#[check") for text in item.attributes):
+        if any(text.startswith("#[check") for text in item.attributes):
             told.fault(
                 item.line,
                 f"`{item.name}` is written for the second format, which asks no check: remove the `#[check(..)]`",
             )
-        if item.name in second | held and getattr(item, "skipped", ()):
+        if getattr(item, "skipped", ()):
             told.fault(
                 item.line,
                 f"`{item.name}` is written for the second format, which skips no field: remove the field",
             )
+
+
+def of_second(items, inside):
+    """The names of the types that are written for the second format, and of those that are inside them."""
+    second = {item.name for item in items if item.name in inside[item.name] or MARK in item.attributes}
+    second |= {name for name, names in inside.items() if names & second}
+    return second, set().union(*(inside[name] for name in second))
+
+
+def parted_by_format(items, told):
+    """The types for the first format, and the groups of those for the second one."""
+    inside = inside_of(items)
+    second, held = of_second(items, inside)
+    refuse_of_first([item for item in items if item.name in second | held], told)
+    for item in items:
         both = sorted(inside[item.name] & held) if item.name not in second | held else []
         if both:
             told.fault(
@@ -72,8 +84,6 @@ def parted_by_format(items, told):
         joined = [group for group in groups if near & {name for one in group for name in {one.name} | inside[one.name]}]
         groups = [group for group in groups if group not in joined]
         groups.append([*(one for group in joined for one in group), item])
-    for group in groups:
-        Fields([item for item in group if not (item.types or item.consts)]).refuse(told)
     order = {item.name: place for place, item in enumerate(items)}
     return [item for item in items if item not in chosen], [
         sorted(group, key=lambda item: order[item.name]) for group in groups
@@ -98,9 +108,14 @@ def refuse_endless(items, told):
         bare(name, (name,))
 
 
-def group_files(group, crate):
+def of_group(items, faulty, told, folder):
+    """The items of a group as they are written, after all that the second format does not have of them is told."""
+    items = [item._replace(attributes=[text for text in item.attributes if text != MARK]) for item in items]
+    return checked(items, faulty, told, folder)
+
+
+def group_files(items, crate):
     """The files of a group by their paths in the crate's folder, and the names of its modules there."""
-    items = [item._replace(attributes=[text for text in item.attributes if text != MARK]) for item in group]
     group = Group(items, crate)
     texts = {f"src/{group.module}.rt": code(group), f"specs/{group.specs}.antt": specs(group)}
     texts |= {f"proofs/{name}": text for name, text in second_format_proofs.files(group).items()}

@@ -3,6 +3,7 @@
 import json
 
 from declarations import Parser, Struct, fields_of
+from groups import inside_of, of_second
 from known_types import INTEGERS, TYPES, Checker, names_in, of_text
 from tokens import Refused
 
@@ -22,6 +23,17 @@ LEAVES |= {
     "SocketAddrV4": SOCKETS["V4"],
     "SocketAddrV6": SOCKETS["V6"],
     "SocketAddr": {"enum": SOCKETS},
+}
+# What they are in the second format: an address is a tuple of its octets, and a socket has only it and the port.
+OCTETS = {"V4": {"array": ["u8", 4]}, "V6": {"array": ["u8", 16]}}
+PORTS = {name: {"struct": {"ip": octets, "port": "u16"}} for name, octets in OCTETS.items()}
+IN_SECOND = {
+    "Ipv4Addr": OCTETS["V4"],
+    "Ipv6Addr": OCTETS["V6"],
+    "IpAddr": {"enum": OCTETS},
+    "SocketAddrV4": PORTS["V4"],
+    "SocketAddrV6": PORTS["V6"],
+    "SocketAddr": {"enum": PORTS},
 }
 LISTS = {"Vec", "BoxedSlice", "RcSlice", "ArcSlice", "VecDeque", "LinkedList", "BTreeSet", "HashSet", "BinaryHeap"}
 MAPS = {"BTreeMap", "HashMap"}
@@ -43,8 +55,8 @@ def replaced(type, given):
 class Nodes:
     """The nodes of a schema, of types that name these items."""
 
-    def __init__(self, items, told):
-        self.items, self.told, self.types = {item.name: item for item in items}, told, {}
+    def __init__(self, items, told, leaves=LEAVES):
+        self.items, self.told, self.types, self.leaves = {item.name: item for item in items}, told, {}, leaves
 
     def of(self, type):
         """The node of a type."""
@@ -77,9 +89,9 @@ class Nodes:
     def known(self, type):
         """The node of a type of the library."""
         name = type.name
-        if name in LEAVES:
+        if name in self.leaves:
             self.parts(type, 0, 0)
-            return LEAVES[name]
+            return self.leaves[name]
         if name in ("PhantomData", "Absent"):
             return "()" if name == "PhantomData" else {"enum": {}}
         if name == "ArrayString":
@@ -160,8 +172,11 @@ def parsed(text, told):
 
 def schema(items, type, told):
     """The schema of a type, given as text, or of the declarations."""
-    nodes = Nodes(items, told)
-    root = nodes.of(parsed(type or root_of(items, told), told))
+    nodes, found = Nodes(items, told), parsed(type or root_of(items, told), told)
+    root = nodes.of(found)
+    if set().union(*of_second(items, inside_of(items))) & {name.split("<")[0] for name in nodes.types}:
+        nodes = Nodes(items, told, LEAVES | IN_SECOND)
+        root = nodes.of(found)
     return {"root": root, "types": nodes.types}
 
 

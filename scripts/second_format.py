@@ -13,11 +13,12 @@ from known_types import MOST_FIELDS
 from lengths import NUMBER, Sum
 from names import module_of
 from second_format_std import ADDRESSES, LISTS, RANGES, TEXTS, instead_of
+from structs import QUOTED
 from tokens import Refused, Told
 
 LIBRARY = (
-    "bitcode_memory bitcode_columns bitcode_int_columns bitcode_float_columns bitcode_shapes bitcode_coder bitcode_ints "
-    "bitcode_floats bitcode_untyped bitcode_serde bitcode_serde_types"
+    "bitcode_memory bitcode_columns bitcode_int_columns bitcode_float_columns bitcode_shapes bitcode_coder "
+    "bitcode_ints bitcode_floats bitcode_untyped bitcode_serde bitcode_serde_types"
 )
 
 # ---- types
@@ -67,8 +68,8 @@ def rust(type_):
 
 # Names of types for which the library has words as those that are made of a type's name, such as `text_tree`.
 LIBRARYS = set(
-    "array at bool char choice field float integer map natural never option ordering repeated result seq set text tuple "
-    "unit".split()
+    "array at bool char choice field float integer map natural never no option ordering repeated result seq set text "
+    "tuple unit".split()
 )
 
 
@@ -233,10 +234,10 @@ class Part:
 
     def function(self):
         """The function that reads it."""
-        name = {"list": "_list", "option": "_option"}.get(self.kind, "")
         if self.kind == "map":
-            name = f"_{'by' if self.type.name == 'BTreeMap' else 'hashed_by'}_{self.type.parts[0].name.lower()}"
-        return f"read_{self.of.word}{name}"
+            by = "by" if self.type.name == "BTreeMap" else "hashed_by"
+            return f"read_{self.of.inner(f'{by}_{self.type.parts[0].name.lower()}')}"
+        return f"read_{self.of.inner(self.kind) if self.kind in ('list', 'option') else self.of.word}"
 
     def in_step(self, value):
         """Its content where the content of each value of the group stands in its place."""
@@ -270,24 +271,28 @@ class Part:
         return "refl" if self.kind in ("list", "option", "map") else f"{self.of.word}_columns ({n})"
 
 
-# What the functions that read fields call other things, and words of antt's.
-# what the body of `write` names
-WRITE = {"below", "err", "left", "place", "self", "write_tuple", "write_variant", "writer"}
-TAKEN = set(
-    "alloc reader budget left place below found item made pairs key keys value values items abbrev absurd cc data elim "
-    "grind hlevel infix infixl infixr module omega open opaque postfix prefix prim record rules ruleset rw search simp "
-    "subst suffices syntax tt unfold unfoldable unfolding variant then at with do case of end by is not was now old new "
-    "result self data".split()
+# what the body of `write` names, and the equation of a variant in its proofs
+WRITE = {"below", "err", "is", "left", "place", "self", "write_tuple", "write_variant", "writer", *QUOTED}
+# what each function that reads fields calls other things, and words of antt's
+TAKEN = QUOTED | set(
+    "fields alloc reader budget left place abbrev absurd cc data elim grind hlevel infix infixl infixr module omega "
+    "open opaque postfix prefix prim record rules ruleset rw search simp subst suffices syntax tt unfold unfoldable "
+    "unfolding variant then at with do case of end by is not was now old new result self".split()
+)
+# the same, with what the functions that read types which contain themselves call so, and the functions that they call
+TAKEN_IN_CYCLES = TAKEN | set(
+    "below found item made pairs key keys value values items find_field follow enter_list enter_map enter_variant "
+    "ordered_map hashed_map".split()
 )
 
 
-def local_names(fields):
+def local_names(fields, taken):
     """Names for what is read of the fields: their own, but for those that may mean something else."""
     return [
         field.name
         if re.fullmatch(r"[a-z][a-z0-9]*(_[a-z0-9]+)*", field.name)
-        and field.name not in TAKEN
-        and not re.fullmatch(r"(place|found|value|field|k)\d+", field.name)
+        and field.name not in taken
+        and not re.fullmatch(r"(place|found|value|field|k)\d+|read_.*", field.name)
         else f"field{n}"
         for n, field in enumerate(fields)
     ]
@@ -297,14 +302,17 @@ def bound_names(variant):
     """Names for the fields of a variant that is written: their own, unless the body of `write` has one of them."""
     if variant.kind != "named":
         return [f"x{n}" for n in range(len(variant.fields))]
-    return [f"x{n}" if field.name in WRITE else field.name for n, field in enumerate(variant.fields)]
+    return [
+        f"x{n}" if field.name in WRITE or re.fullmatch(r"x\d+", field.name) else field.name
+        for n, field in enumerate(variant.fields)
+    ]
 
 
 def bound(variant):
     """The pattern of a variant that is written, without its name."""
     names = bound_names(variant)
     if not names:
-        return ""
+        return {"unit": "", "tuple": "()", "named": " {}"}[variant.kind]
     if variant.kind != "named":
         return f"({', '.join(names)})"
     fields = [name if name == field.name else f"{field.name}: {name}" for field, name in zip(variant.fields, names)]
@@ -470,10 +478,11 @@ def sounds(each):
 
 
 def has_columns(type_):
+    """Whether its form alone proves that it has columns; a tuple's first field does."""
     if type_.kind == "own":
         return type_.columns
     if type_.kind == "tuple":
-        return any(map(has_columns, type_.parts[:1])) and True if type_.parts else False
+        return bool(type_.parts) and has_columns(type_.parts[0])
     if type_.kind == "array":
         return length_of(type_) > 0 and has_columns(type_.parts[0])
     if inner_of(type_, "PhantomData"):
@@ -505,8 +514,12 @@ IN_A_STRUCT = "an option of the type itself is supported in a struct only: add a
 
 
 def refuse_large(item):
-    """Refuses an enum with too many variants, or one of them with too many fields."""
+    """Refuses a struct with too many fields, or an enum with too many variants, or one of them with too many fields."""
     if isinstance(item, Struct):
+        # the checker stops at its step limit where it is to prove that 24 nested references live long enough
+        if len(item.fields) > MOST_FIELDS:
+            why = "a struct has at most 16 fields in the second format: write structs for some of them"
+            raise Refused(item.line, why)
         return
     if len(item.variants) > 256:
         raise Refused(item.line, "an enum has at most 256 variants")
@@ -526,18 +539,20 @@ class Flat:
         # the types of a struct's fields, or those of each variant's
         self.held = [own_in(field.type, own) for field in item.fields] if self.is_struct else None
         self.variants = (
-            [] if self.is_struct else [(one, [own_in(field.type, own) for field in one.fields]) for one in item.variants]
+            []
+            if self.is_struct
+            else [(one, [own_in(field.type, own) for field in one.fields]) for one in item.variants]
         )
-        refuse_large(item)
 
     def has_columns(self):
         return not self.is_struct or any(map(has_columns, self.held))
 
 
 class Shaped:
-    """A type that contains itself, or one between two such types."""
+    """A type that contains itself, or one between two such types. `words` has the words for all types of the file."""
 
-    def __init__(self, item):
+    def __init__(self, item, words):
+        self.words, self.fields_words = words, {}
         self.item, self.name, self.word = item, item.name, word_of(item.name)
         self.of = f"{item.name}<{item.lifetime}>" if item.lifetime else item.name
         self.parameter = f"<{item.lifetime}>" if item.lifetime else ""
@@ -546,29 +561,19 @@ class Shaped:
     def fill(self, group):
         if self.is_struct:
             self.parts = with_list_inside([Part(field.type, group) for field in self.item.fields])
-            for part, name in zip(self.parts, local_names(self.item.fields)):
+            for part, name in zip(self.parts, local_names(self.item.fields, TAKEN_IN_CYCLES)):
                 part.local = name
             self.options = [field.name for field, part in zip(self.item.fields, self.parts) if part.kind == "option"]
-            maps = [part for part in self.parts if part.kind == "map"]
-            if self.options and maps:
-                raise Refused(
-                    maps[0].type.line,
-                    "a struct with an option and a map of itself is not supported: move the map to another struct",
-                )
             return
         self.variants = [
             (variant, [Part(field.type, group) for field in variant.fields]) for variant in self.item.variants
         ]
         self.options = []
-        for field in fields_of(self.item):
-            if Part(field.type, group).kind == "option":
-                raise Refused(field.line, IN_A_STRUCT)
         for _, parts in self.variants:
             if len(parts) > 1:
                 with_list_inside(parts)
             for n, part in enumerate(parts):
                 part.local = f"field{n}"
-        refuse_large(self.item)
 
     def trees(self, left):
         """The shapes of its fields, or of what its variants hold."""
@@ -582,11 +587,33 @@ class Shaped:
     def tree_word(self):
         return "tuple_tree" if self.is_struct else "choice_tree"
 
+    def inner(self, kind):
+        """The word for lists or the like of it. `ExprList` may be a type of the file, too."""
+        word = f"{self.word}_{kind}"
+        return f"{kind}_of_{self.word}" if word in self.words else word
+
+    def fields_word(self, variant):
+        """The word for the fields of a variant."""
+        return self.fields_words[variant.name]
+
 
 def payload_tree(parts, left):
     if not parts:
         return "unit_tree"
     return parts[0].tree(left) if len(parts) == 1 else f"(tuple_tree {trees_of(parts, left)})"
+
+
+def pointed(type_):
+    """The type behind pointers."""
+    while any(inner_of(type_, name) for name in HOLDERS):
+        type_ = type_.parts[0]
+    return type_
+
+
+def held_by_struct(type_):
+    """What to write where a type is not supported that would be one by one."""
+    what = "fields for its parts" if type_.kind == "tuple" else f"a field of the type `{rust(type_)}`"
+    return f"write a struct of your own with {what} in the place of `{rust(type_)}`"
 
 
 def names_in(type_, named):
@@ -618,37 +645,60 @@ class Fields:
     """What fields may have, for a group of which no more is known."""
 
     def __init__(self, items):
-        block = parts_of(items)[2]
-        self.named = {item.name: Shaped(item) for item in items if item.name in block}
+        block, words = parts_of(items)[2], {word_of(item.name) for item in items}
+        self.named = {item.name: Shaped(item, words) for item in items if item.name in block}
         self.own = {item.name: True for item in items if item.name not in block}
-        self.items = items
 
-    def refuse(self, told):
-        """Says what the second format does not have, of all fields of all types."""
-        for item in self.items:
-            for field in fields_of(item):
-                with told.going_on():
-                    if item.name not in self.named:
-                        tree_of(own_in(field.type, self.own | dict.fromkeys(self.named, True)), "left")
-                        continue
-                    part = Part(field.type, self)
-                    part.tree("left")
-                    if part.kind == "option" and not isinstance(item, Struct):
-                        raise Refused(field.line, IN_A_STRUCT)
+    def refuse(self, item, fields, told):
+        """Says what the second format does not have of an item, and of all these fields of it."""
+        with told.going_on():
+            refuse_large(item)
+        kinds = {}
+        for field in fields:
+            with told.going_on():
+                if item.name not in self.named:
+                    tree_of(own_in(field.type, self.own | dict.fromkeys(self.named, True)), "left")
+                    continue
+                part = Part(field.type, self)
+                part.tree("left")
+                kinds.setdefault(part.kind, field)
+                if part.kind == "option" and not isinstance(item, Struct):
+                    raise Refused(field.line, IN_A_STRUCT)
+        if isinstance(item, Struct) and {"option", "map"} <= {*kinds}:
+            told.fault(
+                kinds["map"].type.line,
+                "a struct with an option and a map of itself is not supported: for the option, write an enum of your"
+                f" own with the variants `None` and `Some(Box<{self.named[item.name].of}>)`",
+            )
 
     def mentions(self, type_):
         return type_.name in self.named and type_.kind == "path" or any(map(self.mentions, type_.parts))
 
     def instead_of(self, type_):
         """What to write where such a type is inside a recursive one."""
-        inner = type_.parts[0] if type_.kind == "array" or is_list(type_) else None
-        while inner and inner_of(inner, "Box"):
-            inner = inner.parts[0]
-        if inner and inner.name in self.named:
-            return f"write `Vec<{rust(inner)}>`"
         if inner_of(type_, "PhantomData"):
             return "remove the marker"
-        return "write a struct for what it holds, or a `Box`, a `Vec` or a map of the type itself"
+        inner = pointed(type_)
+        if inner is not type_:
+            return f"write `Box<{rust(inner)}>`" if inner.name in self.named else f"write `{rust(inner)}`"
+        is_vec = inner_of(type_, "Vec")
+        if is_vec or type_.kind == "array" or is_list(type_):
+            inner = pointed(type_.parts[0])
+            if inner.name in self.named or not is_vec:
+                return f"write `Vec<{rust(inner)}>`"
+            return self.instead_of(inner) if inner.name in ("Option", "Result") else held_by_struct(inner)
+        if is_map(type_):
+            key, inner = type_.parts[0], pointed(type_.parts[1])
+            if inner.name in self.named:
+                return f"write `{type_.name}<{rust(key)}, {rust(inner)}>`"
+            return self.instead_of(inner) if inner.name in ("Option", "Result") else held_by_struct(inner)
+        if inner_of(type_, "Option"):
+            inner = pointed(type_.parts[0])
+            held = f"Box<{rust(inner)}>" if inner.name in self.named else rust(inner)
+            return f"write an enum of your own with the variants `None` and `Some({held})`"
+        if is_result(type_):
+            return "write an enum of your own with the variants `Ok` and `Err`"
+        return held_by_struct(type_)
 
 
 class Group(Fields):
@@ -656,7 +706,8 @@ class Group(Fields):
 
     def __init__(self, items, crate):
         inside, above, block = parts_of(items)
-        self.crate, self.types = crate, [Shaped(item) for item in items if item.name in block]
+        words = {word_of(item.name) for item in items}
+        self.crate, self.types = crate, [Shaped(item, words) for item in items if item.name in block]
         self.named = {shaped.name: shaped for shaped in self.types}
         self.lifetime = next((item.lifetime for item in items if item.lifetime), None)
         self.module = module_of(items[0].name)
@@ -700,6 +751,19 @@ class Group(Fields):
             for variant, parts in shaped.variants
             if len(parts) > 1
         ]
+        self.name_fields()
+
+    def name_fields(self):
+        """Gives the fields of each variant a word that means nothing else. `ExprCall` may be a type of the file."""
+        taken = {one.word for one in self.all}
+        taken |= {shaped.inner(kind) for shaped in self.types for kind in ("list", "option")}
+        taken |= {part.function().removeprefix("read_") for part in self.maps}
+        for shaped, variant, _ in self.payloads:
+            word = f"{shaped.word}_{module_of(variant.name)}"
+            while word in taken:
+                word = f"fields_of_{word}"
+            shaped.fields_words[variant.name] = word
+            taken.add(word)
 
     def all_parts(self):
         for shaped in self.types:

@@ -4,14 +4,15 @@ from second_format import tree_of
 from second_format_text import list_datum, option_datum
 
 def option_answers(group, shaped):
-    w, fn = shaped.word, f"read_{shaped.word}_option"
+    w, fn = shaped.word, f"read_{shaped.inner('option')}"
     trees = f"(tree_and unit_tree (tree_and ({w}_tree c.args.left) no_trees))"
     entered = f"{trees} {{}} c.in_ok-found.ensures.enters (omega (arith, c.in_ok-found.ensures.known))"
     return f"""
 pub {fn}-returns-in_err-found-clause-refused : goal.{fn}-returns-in_err-found-clause-refused
 {fn}-returns-in_err-found-clause-refused t c =
     refused_on (choice_tree {trees}) c.args.place c.args.reader.now
-    c.from_residual.result c.in_err-found.field-0.0 c.from_residual.ensures.1 (c.in_err-found.ensures.refused {trees} refl)
+    c.from_residual.result c.in_err-found.field-0.0 c.from_residual.ensures.1 (c.in_err-found.ensures.refused {trees} \
+refl)
 
 pub {fn}-returns-then-found-eq0-clause-read : goal.{fn}-returns-then-found-eq0-clause-read
 {fn}-returns-then-found-eq0-clause-read t c =
@@ -21,7 +22,8 @@ pub {fn}-returns-then-found-eq0-clause-read : goal.{fn}-returns-then-found-eq0-c
 pub {fn}-returns-in_err-value-clause-refused : goal.{fn}-returns-in_err-value-clause-refused
 {fn}-returns-in_err-value-clause-refused t c =
     variant_refused {entered.format(1)}
-    c.from_residual-in_err-value.result c.in_err-value.field-0.0 c.from_residual-in_err-value.ensures.1 c.in_err-value.ensures.refused
+    c.from_residual-in_err-value.result c.in_err-value.field-0.0 c.from_residual-in_err-value.ensures.1 \
+c.in_err-value.ensures.refused
 
 pub {fn}-returns-clause-continues : goal.{fn}-returns-clause-continues
 {fn}-returns-clause-continues t c = continues_on _ _ _ c.in_ok-found.ensures.continues c.in_ok-value.ensures.continues
@@ -29,7 +31,8 @@ pub {fn}-returns-clause-continues : goal.{fn}-returns-clause-continues
 pub {fn}-returns-clause-read : goal.{fn}-returns-clause-read
 {fn}-returns-clause-read t c =
     variant_kept {entered.format(1)}
-    c.args.budget.now c.enter_variant.ensures.taken c.in_ok-value.ensures.read {option_datum(shaped)} (Some c.in_ok-held.held) (rw c.in_ok-held.ensures.ok refl)
+    c.args.budget.now c.enter_variant.ensures.taken c.in_ok-value.ensures.read {option_datum(shaped)} (Some \
+c.in_ok-held.held) (rw c.in_ok-held.ensures.ok refl)
 """
 
 
@@ -44,7 +47,7 @@ def has_many_fields(shaped):
 
 def list_keep_answer(shaped):
     """That a list that does not grow is a refusal for want of memory."""
-    fn = f"read_{shaped.word}_list"
+    fn = f"read_{shaped.inner('list')}"
     tree = f"(seq_tree ({shaped.word}_tree c.args.left))"
     return f"""
 pub {fn}-returns-in_err-keep-clause-refused : goal.{fn}-returns-in_err-keep-clause-refused
@@ -56,7 +59,7 @@ pub {fn}-returns-in_err-keep-clause-refused : goal.{fn}-returns-in_err-keep-clau
 
 
 def list_answers(shaped):
-    w, one, fn = shaped.word, f"read_{shaped.word}", f"read_{shaped.word}_list"
+    w, one, fn = shaped.word, f"read_{shaped.word}", f"read_{shaped.inner('list')}"
     return f"""
 pub {fn}-{one}-requires : goal.{fn}-{one}-requires
 {fn}-{one}-requires t c =
@@ -67,16 +70,19 @@ pub {fn}-{one}-requires : goal.{fn}-{one}-requires
 pub {fn}-returns-in_err-found-clause-refused : goal.{fn}-returns-in_err-found-clause-refused
 {fn}-returns-in_err-found-clause-refused t c =
     let s = {w}_tree c.args.left in
-    refused_on (seq_tree s) c.args.place c.args.reader.now c.from_residual.result c.in_err-found.field-0.0 c.from_residual.ensures.1
+    refused_on (seq_tree s) c.args.place c.args.reader.now c.from_residual.result c.in_err-found.field-0.0 \
+c.from_residual.ensures.1
     (c.in_err-found.ensures.refused s ({w}_columns c.args.left))
 
 pub {fn}-returns-in_err-item-clause-refused : goal.{fn}-returns-in_err-item-clause-refused
 {fn}-returns-in_err-item-clause-refused t c =
     item_refused c.loop-i.invariant c.in_ok-found.ensures.enters (omega arith)
-    c.from_residual-in_err-item.result c.in_err-item.field-0.0 c.from_residual-in_err-item.ensures.1 c.in_err-item.ensures.refused
+    c.from_residual-in_err-item.result c.in_err-item.field-0.0 c.from_residual-in_err-item.ensures.1 \
+c.in_err-item.ensures.refused
 
 pub {fn}-loop-i-init : goal.{fn}-loop-i-init
-{fn}-loop-i-init t c = no_items {w}_datum ({w}_tree c.args.left) _ _ _ _ c.in_ok-found.ensures.continues.steady (search rules)
+{fn}-loop-i-init t c = no_items {w}_datum ({w}_tree c.args.left) _ _ _ _ c.in_ok-found.ensures.continues.steady \
+(search rules)
 
 pub {fn}-loop-i-preserved : goal.{fn}-loop-i-preserved
 {fn}-loop-i-preserved t c =
@@ -97,14 +103,20 @@ def map_answers(part):
     fn, one = part.function(), f"read_{part.of.word}"
     value = f"{part.of.word}_datum"
     trees = f"{tree_of(part.type.parts[0], 'c.args.left')} ({part.of.word}_tree c.args.left)"
-    head = f"{part.key()} {value} {trees} found.keys found.values\n    c.enter_map.new.reader l.reader c.enter_map.new.budget l.budget l._i l.pairs.items l.invariant"
+    head = (
+        f"{part.key()} {value} {trees} found.keys found.values\n"
+        "    c.enter_map.new.reader l.reader c.enter_map.new.budget l.budget l._i l.pairs.items l.invariant"
+    )
     lead = "    let l = c.loop-i in\n    let found = c.in_ok-found.found in\n"
 
     def refused(name, residual, rest):
+        is_inside = name in ("key", "value")
+        lets = f"{lead}    let lt : l._i < found.count = omega arith in\n" if is_inside else ""
         return f"""
 pub {fn}-returns-in_err-{name}-clause-refused : goal.{fn}-returns-in_err-{name}-clause-refused
 {fn}-returns-in_err-{name}-clause-refused t c =
-{lead if name in ('key', 'value') else ''}{'    let lt : l._i < found.count = omega arith in' + chr(10) if name in ('key', 'value') else ''}    refused_on (map_tree {trees}) c.args.place c.args.reader.now {residual}.result c.in_err-{name}.field-0.0 {residual}.ensures.1
+{lets}    refused_on (map_tree {trees}) c.args.place c.args.reader.now {residual}.result c.in_err-{name}.field-0.0 \
+{residual}.ensures.1
     ({rest})
 """
 
@@ -133,7 +145,8 @@ pub {fn}-{one}-requires : goal.{fn}-{one}-requires
         + refused(
             "value",
             "c.from_residual-in_err-value",
-            f"value_not_kept {head}\n    {enters} _ c.read_at.new.reader _ _ c.in_ok-key.key lt c.in_ok-key.ensures.continues c.in_ok-key.ensures.read\n"
+            f"value_not_kept {head}\n    {enters} _ c.read_at.new.reader _ _ c.in_ok-key.key lt "
+            "c.in_ok-key.ensures.continues c.in_ok-key.ensures.read\n"
             "    c.in_err-value.ensures.refused",
         )
         + refused(
@@ -154,18 +167,22 @@ pub {fn}-loop-i-init : goal.{fn}-loop-i-init
 pub {fn}-loop-i-preserved : goal.{fn}-loop-i-preserved
 {fn}-loop-i-preserved t c =
 {lead}    pairs_more {head} tt c.read_at.new.reader _ _ _ _ c.keep.new.items.items c.in_ok-key.key c.in_ok-value.value
-    c.take.ensures c.in_ok-key.ensures.continues c.in_ok-key.ensures.read c.in_ok-value.ensures.continues c.in_ok-value.ensures.read c.in_ok-keep.ensures.kept
+    c.take.ensures c.in_ok-key.ensures.continues c.in_ok-key.ensures.read c.in_ok-value.ensures.continues \
+c.in_ok-value.ensures.read c.in_ok-keep.ensures.kept
 
 pub {fn}-returns-clause-continues : goal.{fn}-returns-clause-continues
 {fn}-returns-clause-continues t c =
-    continues_on c.args.reader.now c.enter_map.new.reader c.loop-i.reader c.in_ok-found.ensures.continues c.loop-i.invariant.0
+    continues_on c.args.reader.now c.enter_map.new.reader c.loop-i.reader c.in_ok-found.ensures.continues \
+c.loop-i.invariant.0
 
 pub {fn}-returns-clause-read : goal.{fn}-returns-clause-read
 {fn}-returns-clause-read t c =
 {lead}    let all : l._i ≡ found.count = omega arith in
-    map_kept {part.key()} {value} {part.datum()} {trees} c.args.place c.args.reader.now l.reader c.args.budget.now l.budget l.pairs.items
+    map_kept {part.key()} {value} {part.datum()} {trees} c.args.place c.args.reader.now l.reader c.args.budget.now \
+l.budget l.pairs.items
     c.in_ok-made.made.entries c.in_ok-made.made refl (c.in_ok-made.ensures.entries {value})
     (pairs_kept {head}
-    c.args.reader.now c.args.place found.count c.args.budget.now c.in_ok-found.ensures.enters refl all c.enter_map.ensures.taken)
+    c.args.reader.now c.args.place found.count c.args.budget.now c.in_ok-found.ensures.enters refl all \
+c.enter_map.ensures.taken)
 """
     )

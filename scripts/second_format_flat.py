@@ -3,18 +3,29 @@ each variant of an enum holds such a tuple, so that they are read and written by
 
 import re
 
-from second_format import SIGNED, applied, bound, bound_names, data_of, datum_of, field_in, rust, sound_of, sounds, tree_of, trees_and
+from second_format import (
+    SIGNED,
+    TAKEN,
+    applied,
+    bound,
+    bound_names,
+    data_of,
+    datum_of,
+    field_in,
+    local_names,
+    rust,
+    sound_of,
+    sounds,
+    tree_of,
+    trees_and,
+)
 from second_format_text import built, nested
+from structs import quoted
 
 
 def has_signed(types):
     """Whether a signed number is among what the types hold: it is told otherwise in a value than in a clause."""
     return any(name in SIGNED for type_ in types for name in re.findall(r"\w+", rust(type_)))
-
-
-def names_of(flat):
-    """Names for the fields of the struct."""
-    return [f"field{field.name}" if field.name.isdigit() else field.name for field in flat.item.fields]
 
 
 def tuple_of_types(flat):
@@ -32,11 +43,12 @@ def specs(flat):
     w = flat.word
     lines = [f"-- the shape of `{flat.name}`", f"abbrev pub {w}_tree : ℕ → ShapeTree"]
     if flat.is_struct:
+        data = [applied(datum_of(type_), f"t.{field.name}") for field, type_ in zip(flat.item.fields, flat.held)]
         lines += [
             f"{w}_tree left = tuple_tree {trees_and([tree_of(type_, 'left') for type_ in flat.held])}",
             "",
             f"abbrev pub {w}_datum : {flat.name} → Datum",
-            f"{w}_datum t = tuple {data_of([applied(datum_of(type_), f't.{field.name}') for field, type_ in zip(flat.item.fields, flat.held)])}",
+            f"{w}_datum t = tuple {data_of(data)}",
         ]
         each = [sound_of(type_, "left") for type_ in flat.held]
     else:
@@ -87,16 +99,18 @@ def written(flat):
         names = bound_names(variant)
         held = "&()" if not names else names[0] if len(names) == 1 else f"&({', '.join(names)})"
         taken = f"{flat.name}::{variant.name}{bound(variant)}"
-        arms += f"            {taken} => {{\n                write_variant({held}, {index}, writer, left, place)\n            }}\n"
+        body = f"write_variant({held}, {index}, writer, left, place)"
+        arms += f"            {taken} => {{\n                {body}\n            }}\n"
     return f"        match self {{\n{arms}        }}\n"
 
 
 def read(flat):
     """The body of `read`."""
     if flat.is_struct:
-        names = names_of(flat)
+        names = local_names(flat.item.fields, TAKEN)
         return (
-            f"        let fields: {tuple_of_types(flat)} = read_tuple(alloc, reader, budget, left, place, {len(names)})?;\n"
+            f"        let fields: {tuple_of_types(flat)} = "
+            f"read_tuple(alloc, reader, budget, left, place, {len(names)})?;\n"
             f"        let {nested(names).replace('()', '_end')} = fields;\n"
             f"        Ok({built(flat.name, flat.item.fields, flat.item.kind, names)})\n"
         )
@@ -156,7 +170,7 @@ def struct_read(flat):
     kept = "kept_otherwise _ _ _ _ _ _ _ _ refl c.in_ok-fields.ensures.read"
     if has_signed(flat.held):
         fields = [
-            f"{field.name} = c.in_ok-fields.fields{'.1' * n}.0" for n, field in enumerate(flat.item.fields)
+            f"{quoted(field.name)} = c.in_ok-fields.fields{'.1' * n}.0" for n, field in enumerate(flat.item.fields)
         ]
         value = f"(record {{ {'; '.join(fields)} }})"
         kept = f"""
@@ -177,30 +191,36 @@ ENUM_FOUND = """
 pub returns-in_err-found-clause-refused : goal.returns-in_err-found-clause-refused
 returns-in_err-found-clause-refused c =
     let ss = {w}_trees c.args.left in
-    refused_on (choice_tree ss) c.args.place c.args.reader.now c.from_residual.result c.in_err-found.field-0.0 c.from_residual.ensures.1
+    refused_on (choice_tree ss) c.args.place c.args.reader.now c.from_residual.result c.in_err-found.field-0.0 \
+c.from_residual.ensures.1
     (c.in_err-found.ensures.refused ss refl)
 """
 
 UNIT_READ = """
 pub returns-{where}-clause-read : goal.returns-{where}-clause-read
 returns-{where}-clause-read c =
-    unit_variant_kept ({w}_trees c.args.left) {index} c.in_ok-found.ensures.enters (omega (arith, c.in_ok-found.ensures.known)) refl
+    unit_variant_kept ({w}_trees c.args.left) {index} c.in_ok-found.ensures.enters (omega (arith, \
+c.in_ok-found.ensures.known)) refl
     c.args.budget.now c.enter_variant.ensures.taken c.{take}.ensures {w}_datum {w}'.{v} refl
 """
 
 HELD_READ = """
 pub returns-in_err-held-{where}-clause-refused : goal.returns-in_err-held-{where}-clause-refused
 returns-in_err-held-{where}-clause-refused c =
-    variant_refused ({w}_trees c.args.left) {index} c.in_ok-found.ensures.enters (omega (arith, c.in_ok-found.ensures.known))
-    c.from_residual-in_err-held-{where}.result c.in_err-held-{where}.field-0.0 c.from_residual-in_err-held-{where}.ensures.1 c.in_err-held-{where}.ensures.refused
+    variant_refused ({w}_trees c.args.left) {index} c.in_ok-found.ensures.enters (omega (arith, \
+c.in_ok-found.ensures.known))
+    c.from_residual-in_err-held-{where}.result c.in_err-held-{where}.field-0.0 \
+c.from_residual-in_err-held-{where}.ensures.1 c.in_err-held-{where}.ensures.refused
 
 pub returns-in_ok-held-{where}-clause-continues : goal.returns-in_ok-held-{where}-clause-continues
-returns-in_ok-held-{where}-clause-continues c = continues_on _ _ _ c.in_ok-found.ensures.continues c.in_ok-held-{where}.ensures.continues
+returns-in_ok-held-{where}-clause-continues c = continues_on _ _ _ c.in_ok-found.ensures.continues \
+c.in_ok-held-{where}.ensures.continues
 
 pub returns-in_ok-held-{where}-clause-read : goal.returns-in_ok-held-{where}-clause-read
 returns-in_ok-held-{where}-clause-read c =
     {kept}
 """
 
-KEPT = """variant_kept ({w}_trees c.args.left) {index} c.in_ok-found.ensures.enters (omega (arith, c.in_ok-found.ensures.known))
+KEPT = """variant_kept ({w}_trees c.args.left) {index} c.in_ok-found.ensures.enters (omega (arith, \
+c.in_ok-found.ensures.known))
     c.args.budget.now c.enter_variant.ensures.taken c.in_ok-held-{where}.ensures.read {w}_datum {value} refl"""

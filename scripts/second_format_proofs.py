@@ -13,7 +13,8 @@ from second_format_containers import (
     option_answers,
 )
 from second_format_std import WORDS_OF_STD
-from second_format_text import WORDS, payload_datum, used, variant_name
+from second_format_text import WORDS, payload_datum, used
+from structs import quoted
 
 OF_LEMMAS = [
     ("std.proofs.Common", "◌≡◌ Option Some None Box Global map refl ap ◌∙◌ string_bytes"),
@@ -28,11 +29,11 @@ OF_ANSWERS = [
     ("bitcode_serde_types.specs.Written", WORDS),
     (
         "bitcode_serde_types.proofs.StepsRead",
-        "continues_on still_there columns_first columns_behind no_fields_kept place_there kept_otherwise PairsKept no_memory "
-        "no_pairs pairs_more keys_there values_there key_not_kept value_not_kept pairs_kept map_kept entries_mapped "
-        "refused_on too_deep too_deep_written and_field field_refused and_found found_refused all_fields_kept ItemsKept "
-        "no_items items_there and_item item_refused items_kept item_stuck and_list variant_refused variant_kept "
-        "unit_variant_kept",
+        "continues_on still_there columns_first columns_behind no_fields_kept place_there kept_otherwise PairsKept "
+        "no_memory no_pairs pairs_more keys_there values_there key_not_kept value_not_kept pairs_kept map_kept "
+        "entries_mapped refused_on too_deep too_deep_written and_field field_refused and_found found_refused "
+        "all_fields_kept ItemsKept no_items items_there and_item item_refused items_kept item_stuck and_list "
+        "variant_refused variant_kept unit_variant_kept",
     ),
 ]
 
@@ -41,7 +42,7 @@ def own_imports(group, text, with_lemmas=True):
     own = " ".join(
         f"{shaped.word}_tree {shaped.word}_trees {shaped.word}_step {shaped.word}_datum" for shaped in group.types
     )
-    own += " " + " ".join(f"{variant_name(shaped, variant)}_trees" for shaped, variant, _ in group.payloads)
+    own += " " + " ".join(f"{shaped.fields_word(variant)}_trees" for shaped, variant, _ in group.payloads)
     found = used([(f"{group.crate}.specs.{group.specs}", own)], text)
     place = f"{group.crate}.specs.declared.{group.module}"
     for shaped in group.types:
@@ -98,7 +99,8 @@ def columns_lemmas(group):
     for shaped in group.types:
         w = shaped.word
         proof = columns_of(shaped.parts, "n") if shaped.is_struct else "refl"
-        text += f"""{'' if several and shaped is group.types[0] else chr(10)}{inside}{w}_columns : (n : ℕ) → false ≡ column_free ({w}_tree n)
+        text += "" if several and shaped is group.types[0] else "\n"
+        text += f"""{inside}{w}_columns : (n : ℕ) → false ≡ column_free ({w}_tree n)
 {inside}{w}_columns zero = refl
 {inside}{w}_columns (suc n) = {proof}
 """
@@ -137,7 +139,7 @@ def content_lemma(group, shaped, is_made):
         for field in shaped.item.fields:
             place = shaped.options.index(field.name) if field.name in shaped.options else None
             fields.append(
-                f"{field.name} = "
+                f"{quoted(field.name)} = "
                 + (f"{own}.{field.name}" if place is None or place > n else "z" if place == n else f"o{place}")
             )
         turns += (
@@ -172,12 +174,16 @@ def variant_equation(group, shaped, variant, taken):
     w = shaped.word
     args = "".join(f" {one}" for one in taken)
     if not taken:
-        return f"ap {w}_datum (sym {w}'.rolls-{variant.name}) ∙ fold-roll-{shaped.name} {group.fold(shaped)} {shaped.name}-F.{variant.name}"
+        return (
+            f"ap {w}_datum (sym {w}'.rolls-{variant.name}) ∙ "
+            f"fold-roll-{shaped.name} {group.fold(shaped)} {shaped.name}-F.{variant.name}"
+        )
     index = [other for other, _ in shaped.variants].index(variant)
     parts = shaped.variants[index][1]
     several = len(parts) > 1
     return (
-        f"ap {w}_datum (sym ({w}'.rolls-{variant.name}{args})) ∙ fold-roll-{shaped.name} {group.fold(shaped)} ({shaped.name}-F.{variant.name}{args})"
+        f"ap {w}_datum (sym ({w}'.rolls-{variant.name}{args})) ∙ "
+        f"fold-roll-{shaped.name} {group.fold(shaped)} ({shaped.name}-F.{variant.name}{args})"
         + maps_told(
             parts, taken, lambda terms: f"choice {index} " + (f"(tuple {data_of(terms)})" if several else terms[0])
         )
@@ -192,10 +198,15 @@ def maps_told(parts, values, whole):
         if part.kind != "map":
             continue
         terms = [
-            "z" if n == place else other.mapped(value) if other.kind == "map" and n > place else applied(other.datum(), value)
+            "z"
+            if n == place
+            else other.mapped(value)
+            if other.kind == "map" and n > place
+            else applied(other.datum(), value)
             for n, (other, value) in enumerate(zip(parts, values))
         ]
-        text += f"\n    ∙ ap (λ z. {whole(terms)}) (entries_mapped {part.key()} {part.of.word}_datum {values[place]}.entries)"
+        entries = f"entries_mapped {part.key()} {part.of.word}_datum {values[place]}.entries"
+        text += f"\n    ∙ ap (λ z. {whole(terms)}) ({entries})"
     return text
 
 
@@ -211,7 +222,8 @@ def of_struct(group, shaped):
             shaped.parts, values, tuple_of
         )
     now = f"(out-{shaped.name} c.args.self.now)"
-    return f"{shaped.word}_content c.args.self.now {' '.join(f'{now}.{option}' for option in shaped.options)} {' '.join('refl' for _ in shaped.options)}"
+    options = " ".join(f"{now}.{option}" for option in shaped.options)
+    return f"{shaped.word}_content c.args.self.now {options} {' '.join('refl' for _ in shaped.options)}"
 
 
 FOLLOWED = "c.in_ok-below.ensures.followed"
@@ -232,7 +244,8 @@ def writing(group, shaped, prefix=""):
     text = f"""
 pub {prefix}returns-in_err-below : goal.{prefix}returns-in_err-below
 {prefix}returns-in_err-below t c =
-    too_deep_written {w}_tree refl _ c.args.place {left_through('below')} c.in_err-below.ensures.refused c.args.writer.now _
+    too_deep_written {w}_tree refl _ c.args.place {left_through('below')} c.in_err-below.ensures.refused \
+c.args.writer.now _
 """
     if shaped.is_struct:
         return (
@@ -275,7 +288,8 @@ def lets(trees, parts, k):
         value = f"value{n}" if part.kind == "box" else part.local
         step = f"and_field k{n}" if part.kind == "other" else f"and_found k{n} c.in_ok-place{n}.ensures.found"
         if part.is_inside:
-            text += f"""    let k{n + 1} = and_list k{n} c.in_ok-place{n}.ensures.found c.loop-i.invariant c.in_ok-found{n}.ensures.enters c.in_ok-found{n}.ensures.continues (omega arith)
+            text += f"""    let k{n + 1} = and_list k{n} c.in_ok-place{n}.ensures.found c.loop-i.invariant \
+c.in_ok-found{n}.ensures.enters c.in_ok-found{n}.ensures.continues (omega arith)
     ({part.of.word}_columns {left_of(trees)}) c.enter_list.ensures.taken {part.datum()} c.loop-i.{part.local} refl in
 """
         else:
@@ -292,22 +306,30 @@ def list_inside_answers(fn, trees, parts, n, tree, turn):
     """The answers for a list that is read among fields, one element after another."""
     part, left = parts[n], left_of(trees)
     w, step = part.of.word, f"found_refused k{n} c.in_ok-place{n}.ensures.found"
+    refused = f"c.in_err-found{n}.ensures.refused ({w}_tree {left}) ({w}_columns {left})"
+    not_found = turn(f"{step} {left_through(f'found{n}', BREAK)} ({refused})")
+    stuck = turn(
+        f"item_stuck k{n} c.in_ok-place{n}.ensures.found c.loop-i.invariant c.in_ok-found{n}.ensures.enters"
+        f" (omega arith){BREAK}{left_through('item')} c.in_err-item.ensures.refused"
+    )
     text = f"""
 pub {fn}-returns-in_err-found{n}-clause-refused : goal.{fn}-returns-in_err-found{n}-clause-refused
 {fn}-returns-in_err-found{n}-clause-refused t c =
-{lets(trees, parts, n)}{turn(f'{step} {left_through(f"found{n}", BREAK)} (c.in_err-found{n}.ensures.refused ({w}_tree {left}) ({w}_columns {left}))')}
+{lets(trees, parts, n)}{not_found}
 pub {fn}-read_{w}-requires : goal.{fn}-read_{w}-requires
 {fn}-read_{w}-requires t c =
     search (rules, items_there c.loop-i.invariant c.in_ok-found{n}.ensures.inside, c.loop-i.invariant.continues.steady)
 
 pub {fn}-returns-in_err-item-clause-refused : goal.{fn}-returns-in_err-item-clause-refused
 {fn}-returns-in_err-item-clause-refused t c =
-{lets(trees, parts, n)}{turn(f'item_stuck k{n} c.in_ok-place{n}.ensures.found c.loop-i.invariant c.in_ok-found{n}.ensures.enters (omega arith){BREAK}{left_through("item")} c.in_err-item.ensures.refused')}
+{lets(trees, parts, n)}{stuck}
 pub {fn}-loop-i-init : goal.{fn}-loop-i-init
-{fn}-loop-i-init t c = no_items {w}_datum ({w}_tree {left}) _ _ _ _ c.in_ok-found{n}.ensures.continues.steady (search rules)
+{fn}-loop-i-init t c = no_items {w}_datum ({w}_tree {left}) _ _ _ _ c.in_ok-found{n}.ensures.continues.steady (search \
+rules)
 
 pub {fn}-loop-i-preserved : goal.{fn}-loop-i-preserved
-{fn}-loop-i-preserved t c = and_item c.loop-i.invariant c.in_ok-item.ensures.continues c.in_ok-item.ensures.read _ c.in_ok-keep.ensures.kept
+{fn}-loop-i-preserved t c = and_item c.loop-i.invariant c.in_ok-item.ensures.continues c.in_ok-item.ensures.read _ \
+c.in_ok-keep.ensures.kept
 """
     if len(parts) > FEW_FIELDS:
         text += f"""
@@ -349,7 +371,8 @@ pub {goal} : goal.{goal}
                 text += f"""
 pub {goal} : goal.{goal}
 {goal} t c =
-{lets(trees, parts, n)}    record {{ place = place_there _ _ _ _ k{n} c.requires.place; steady = k{n}.continues.steady }}
+{lets(trees, parts, n)}    record \
+{{ place = place_there _ _ _ _ k{n} c.requires.place; steady = k{n}.continues.steady }}
 """
             if part.is_inside:
                 text += list_inside_answers(fn, trees, parts, n, tree, turn)
@@ -374,7 +397,7 @@ pub {goal} : goal.{goal}
 {lets(trees, parts, n) if n else ''}{turn(inner)}"""
     last = len(parts)
     kept = f"all_fields_kept k{last} c.args.budget.now c.take.ensures {datum} {value} ({equation})"
-    if has_signed(parts):
+    if has_signed_field(parts):
         kept = f"let k = {kept} in search (rules, k)"
     read = f"rw {FOLLOWED} ({kept})" if is_deep else kept
     goal = f"{fn}-returns"
@@ -388,7 +411,8 @@ pub {goal} : goal.{goal}
     )
 
 
-def has_signed(parts):
+def has_signed_field(parts):
+    """Whether a field itself is a signed number: it is told otherwise in a value than in a clause."""
     return any(part.kind == "other" and part.rust in SIGNED for part in parts)
 
 
@@ -413,7 +437,8 @@ def raise_on_boxes(shaped):
 
 def struct_answers(group, shaped):
     w, fn = shaped.word, f"read_{shaped.word}"
-    fields = "; ".join(f"{field.name} = {value_of(part)}" for field, part in zip(shaped.item.fields, shaped.parts))
+    pairs = zip(shaped.item.fields, shaped.parts)
+    fields = "; ".join(f"{quoted(field.name)} = {value_of(part)}" for field, part in pairs)
     value = f"(record {{ {fields} }})"
     values = [value_of(part) for part in shaped.parts]
     equation = f"fold-roll-{shaped.name} {group.fold(shaped)} {value}" + maps_told(shaped.parts, values, tuple_of)
@@ -438,7 +463,8 @@ pub {goal} : goal.{goal}
 {goal} t c =
     let ss = {w}_trees c.in_ok-below.below in
     rw {FOLLOWED}
-    (refused_on (choice_tree ss) c.args.place c.args.reader.now {left_through('found')} (c.in_err-found.ensures.refused ss refl))
+    (refused_on (choice_tree ss) c.args.place c.args.reader.now {left_through('found')} \
+(c.in_err-found.ensures.refused ss refl))
 """
     )
     for index, (variant, parts) in enumerate(shaped.variants):
@@ -450,7 +476,8 @@ pub {goal} : goal.{goal}
 def arm_answers(group, shaped, variant, parts, index, where):
     w, fn = shaped.word, f"read_{shaped.word}"
     entered = (
-        f"({w}_trees c.in_ok-below.below) {index} c.in_ok-found.ensures.enters (omega (arith, c.in_ok-found.ensures.known))"
+        f"({w}_trees c.in_ok-below.below) {index} c.in_ok-found.ensures.enters "
+        "(omega (arith, c.in_ok-found.ensures.known))"
     )
     if not parts:
         goal = f"{fn}-returns-{where}-clause-read"
@@ -466,9 +493,11 @@ pub {goal} : goal.{goal}
     name = "value" if kind == "box" else "held"
     ok, bad = f"c.in_ok-{name}-{where}", f"c.in_err-{name}-{where}"
     if kind == "several":
-        equation = variant_equation(group, shaped, variant, [field_in(f"{ok}.held", place, len(parts)) for place in range(len(parts))])
+        held = [field_in(f"{ok}.held", place, len(parts)) for place in range(len(parts))]
+        equation = variant_equation(group, shaped, variant, held)
     elif kind == "box":
-        equation = f"{variant_equation(group, shaped, variant, [f'c.in_ok-held-{where}.held'])} ∙ rw c.in_ok-held-{where}.ensures.ok refl"
+        equation = variant_equation(group, shaped, variant, [f"c.in_ok-held-{where}.held"])
+        equation += f" ∙ rw c.in_ok-held-{where}.ensures.ok refl"
     else:
         equation = variant_equation(group, shaped, variant, [f"{ok}.held"])
     goal = f"{fn}-returns-in_err-{name}-{where}-clause-refused"
@@ -479,12 +508,12 @@ pub {goal} : goal.{goal}
     (variant_refused {entered}
     {left_through(f'{name}-{where}')} {bad}.ensures.refused)
 """
-    value = f"({shaped.word}'.{variant.name} {ok}.held)" if len(parts) == 1 and has_signed(parts) else "_"
+    value = f"({shaped.word}'.{variant.name} {ok}.held)" if len(parts) == 1 and has_signed_field(parts) else "_"
     kept = (
         f"variant_kept {entered}\n"
         f"    c.args.budget.now c.enter_variant.ensures.taken {ok}.ensures.read {w}_datum {value} ({equation})"
     )
-    if has_signed(parts):
+    if has_signed_field(parts):
         kept = f"let k = {kept} in\n    search (rules, k)"
     goal = f"{fn}-returns-in_ok-held-{where}"
     return (
@@ -511,9 +540,16 @@ def reading(group):
     for shaped in group.types:
         text += struct_answers(group, shaped) if shaped.is_struct else enum_answers(group, shaped)
     for shaped, variant, parts in group.payloads:
-        name = variant_name(shaped, variant)
+        name = shaped.fields_word(variant)
         text += fields_answers(
-            f"read_{name}", f"tuple_tree ({name}_trees c.args.left)", f"{name}_trees c.args.left", parts, False, payload_datum(parts), "_", boxes(parts)
+            f"read_{name}",
+            f"tuple_tree ({name}_trees c.args.left)",
+            f"{name}_trees c.args.left",
+            parts,
+            False,
+            payload_datum(parts),
+            "_",
+            boxes(parts),
         )
     for shaped in group.options:
         text += option_answers(group, shaped)
@@ -544,44 +580,51 @@ def invariant_inside(fn, parts, left):
         f"""
 abbrev pub invariant-{fn}-loop-i : goal.invariant-{fn}-loop-i
 invariant-{fn}-loop-i l =
-    ItemsKept {part.of.word}_datum ({part.of.word}_tree {left}) l.found{n}.place l.initial.reader l.initial.budget l._i l.{part.local}.items l.reader l.budget
+    ItemsKept {part.of.word}_datum ({part.of.word}_tree {left}) l.found{n}.place l.initial.reader l.initial.budget \
+l._i l.{part.local}.items l.reader l.budget
 """
         for n, part in enumerate(parts)
         if part.is_inside
     )
 
 
+def decreases(fn, measure):
+    return f"\nabbrev pub decreases-{fn} : goal.decreases-{fn}\ndecreases-{fn} l = {measure}\n"
+
+
 def invariants(group):
     text = ""
     measure = "3 * l.left" if has_inner(group) else "l.left"
     for shaped in group.types:
-        text += f"\nabbrev pub decreases-read_{shaped.word} : goal.decreases-read_{shaped.word}\ndecreases-read_{shaped.word} l = {measure}\n"
+        text += decreases(f"read_{shaped.word}", measure)
     for shaped, variant, _ in group.payloads:
-        name = variant_name(shaped, variant)
-        text += f"\nabbrev pub decreases-read_{name} : goal.decreases-read_{name}\ndecreases-read_{name} l = 3 * l.left + 2\n"
+        name = shaped.fields_word(variant)
+        text += decreases(f"read_{name}", "3 * l.left + 2")
     for shaped in group.types:
         if shaped.is_struct:
             text += invariant_inside(f"read_{shaped.word}", shaped.parts, "l.below")
     for shaped, variant, parts in group.payloads:
-        text += invariant_inside(f"read_{variant_name(shaped, variant)}", parts, "l.left")
+        text += invariant_inside(f"read_{shaped.fields_word(variant)}", parts, "l.left")
     for shaped in group.options:
-        fn = f"read_{shaped.word}_option"
-        text += f"\nabbrev pub decreases-{fn} : goal.decreases-{fn}\ndecreases-{fn} l = 3 * l.left + 1\n"
+        fn = f"read_{shaped.inner('option')}"
+        text += decreases(fn, "3 * l.left + 1")
     for shaped in group.lists:
-        fn = f"read_{shaped.word}_list"
-        text += f"\nabbrev pub decreases-{fn} : goal.decreases-{fn}\ndecreases-{fn} l = 3 * l.left + 1\n"
+        fn = f"read_{shaped.inner('list')}"
+        text += decreases(fn, "3 * l.left + 1")
         text += f"""
 abbrev pub invariant-{fn}-loop-i : goal.invariant-{fn}-loop-i
 invariant-{fn}-loop-i l =
-    ItemsKept {shaped.word}_datum ({shaped.word}_tree l.left) l.found.place l.initial.reader l.initial.budget l._i l.items.items l.reader l.budget
+    ItemsKept {shaped.word}_datum ({shaped.word}_tree l.left) l.found.place l.initial.reader l.initial.budget l._i \
+l.items.items l.reader l.budget
 """
     for part in group.maps:
         fn = part.function()
-        text += f"\nabbrev pub decreases-{fn} : goal.decreases-{fn}\ndecreases-{fn} l = 3 * l.left + 1\n"
+        text += decreases(fn, "3 * l.left + 1")
         text += f"""
 abbrev pub invariant-{fn}-loop-i : goal.invariant-{fn}-loop-i
 invariant-{fn}-loop-i l =
-    PairsKept {part.key()} {part.of.word}_datum {tree_of(part.type.parts[0], 'l.left')} ({part.of.word}_tree l.left) l.found.keys l.found.values
+    PairsKept {part.key()} {part.of.word}_datum {tree_of(part.type.parts[0], 'l.left')} ({part.of.word}_tree l.left) \
+l.found.keys l.found.values
     l.initial.reader l.initial.budget l._i l.pairs.items l.reader l.budget
 """
     plus = ["◌*◌", "◌+◌"][: 1 + ("+" in text)] if has_inner(group) else []

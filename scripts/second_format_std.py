@@ -1,5 +1,5 @@
-"""The types of the standard library that scripts/second_format knows: what each is in the second format, and the words of
-specs that say so."""
+"""The types of the standard library that scripts/second_format knows: what each is in the second format, and the words
+of specs that say so."""
 
 from known_types import INSTEAD, TYPES
 
@@ -44,7 +44,7 @@ WORDS_OF_STD = [
     ("std.specs.Rc", "rc_value rc_slice_items rc_str_bytes"),
     ("std.specs.VecDeque", "deque_items"),
     ("bitcode_shapes.specs.Addresses", "ip_family socket_family"),
-    ("bitcode_serde_types.specs.Arrays", "array_tree array_datum repeated repeated_sound"),
+    ("bitcode_serde_types.specs.Arrays", "array_tree array_datum repeated_sound repeated_plain"),
     ("bitcode_serde_types.specs.Orderings", "ordering_tree ordering_datum"),
 ]
 

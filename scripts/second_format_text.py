@@ -5,7 +5,6 @@ import re
 from second_format import LIBRARY, MAPS, applied, bound, bound_names, data_of, field_in, payload_tree, sounds, trees_of
 from second_format_std import TYPES_OF_STD, WORDS_OF_STD
 from declarations import Struct
-from names import module_of
 from structs import declaration as struct_declaration
 from variants import declaration as enum_declaration
 
@@ -33,10 +32,6 @@ def used(groups, text):
     return imports(groups, text, lambda module, found: f"use Rattle.{module}.{{{', '.join(found)}}}\n")
 
 
-def variant_name(shaped, variant):
-    return f"{shaped.word}_{module_of(variant.name)}"
-
-
 # ---- definitions
 
 # `bitcode_serde_types/specs/Written.antt` has these of several modules
@@ -51,16 +46,7 @@ OF_SPECS = [
     ("std.specs.Float", "binary32 binary64"),
     *WORDS_OF_STD,
     ("bitcode_serde_types.specs.Written", WORDS),
-    ("bitcode_serde_types.specs.Restates", "HaveNoMap"),
 ]
-
-
-REPEATED = """-- there is no map in the elements of an array, if there is none in their shape
-repeated_plain : (n : ℕ) (s : ShapeTree) → HasNoMap s → HaveNoMap (repeated n s)
-repeated_plain zero s h = tt
-repeated_plain (suc n) s h = (h, repeated_plain n s h)
-
-"""
 
 
 def specs(group):
@@ -75,7 +61,6 @@ def specs(group):
     for flat in group.above:
         lines += with_plain(flat_specs(flat), [flat], mapped)
     text = "\n".join(lines).rstrip() + "\n"
-    text = REPEATED + text if "repeated_plain" in text else text
     names = ", ".join(f"`{one.name}`" for one in group.all)
     head = f"-- The shapes of {names}, and the content of their values. Written by `scripts/second_format`.\n" + used(
         OF_SPECS, text
@@ -99,11 +84,13 @@ def with_plain(lines, types, mapped):
     if "map_tree" in text or any(has_name(f"{word}_tree", text) for word in mapped):
         mapped.update(one.word for one in types)
         return lines
-    start = max(place for place, line in enumerate(lines) if "_sound : " in line and line.endswith(f"({types[0].word}_tree left)"))
+    is_sound = lambda line: "_sound : " in line and line.endswith(f"({types[0].word}_tree left)")
+    start = max(place for place, line in enumerate(lines) if is_sound(line))
     sound = lines[start:]
     several = lines[start - 1] == "mutual"
     plain = ["-- there is no map in it, so that a value keeps all that was read", *(["mutual"] if several else [])]
-    plain += [re.sub(r"width_\d+", "tt", line).replace("_sound", "_plain").replace("IsSound", "HasNoMap") for line in sound]
+    for line in sound:
+        plain.append(re.sub(r"width_\d+", "tt", line).replace("_sound", "_plain").replace("IsSound", "HasNoMap"))
     return [*lines, *plain]
 
 
@@ -130,7 +117,7 @@ def cycle_specs(group):
             "",
         ]
     for shaped, variant, parts in group.payloads:
-        name = variant_name(shaped, variant)
+        name = shaped.fields_word(variant)
         lines += [f"abbrev pub {name}_trees : ℕ → ShapeTrees", f"{name}_trees left = {trees_of(parts, 'left')}", ""]
     data = " ".join("Datum" for _ in group.types)
     lines.append("-- one level, with the content of each value inside in its place")
@@ -194,8 +181,9 @@ OF_CODE = [
 OF_LIBRARY = [
     (
         "bitcode_serde_types::written",
-        "Budget DeserializeAs DeserializeFields Error Reader Reason SerializeAs Writer enter_list enter_map enter_variant "
-        f"find_field follow {' '.join(sorted(MAPS.values()))} read_at read_field read_tuple write_tuple write_variant",
+        "Budget DeserializeAs DeserializeFields Error Reader Reason SerializeAs Writer enter_list enter_map "
+        f"enter_variant find_field follow {' '.join(sorted(MAPS.values()))} read_at read_field read_tuple write_tuple "
+        "write_variant",
     ),
     ("std::alloc", "Global"),
 ]
@@ -232,7 +220,8 @@ def fields_read(parts, left):
     text = ""
     for n, part in enumerate(parts):
         if part.kind == "other":
-            text += f"    let {part.local}: {part.rust} = read_field(alloc, reader, budget, {left}, place, {n}, {len(parts)})?;\n"
+            call = f"read_field(alloc, reader, budget, {left}, place, {n}, {len(parts)})?"
+            text += f"    let {part.local}: {part.rust} = {call};\n"
             continue
         text += f"    let place{n} = find_field(reader, place, {n}, {len(parts)})?;\n"
         text += held_read(part, left, f"place{n}", part.local, f"value{n}", "    ", f"found{n}")
@@ -261,8 +250,8 @@ def built(owner, fields, kind, names):
         each = [
             name if name == field.name else f"{field.name}: {name}" for field, name in zip(fields, names)
         ]
-        return f"{owner} {{ {', '.join(each)} }}"
-    return f"{owner}({', '.join(names)})" if names else owner
+        return f"{owner} {{ {', '.join(each)} }}" if each else f"{owner} {{}}"
+    return f"{owner}({', '.join(names)})" if kind == "tuple" else owner
 
 
 DEEP = "    let below = follow(left)?;\n"
@@ -275,11 +264,14 @@ def reading(group):
         if shaped.is_struct:
             body += "    budget.take(1);\n" + fields_read(shaped.parts, "below")
             names = [part.local for part in shaped.parts]
-            body += f"    Ok({built(shaped.name, shaped.item.fields, 'named', names)})\n"
+            body += f"    Ok({built(shaped.name, shaped.item.fields, shaped.item.kind, names)})\n"
         else:
-            body += f"    let found = enter_variant(reader, budget, {len(shaped.variants)}, Reason::InvalidEnumVariant, place)?;\n    match found.index {{\n"
+            count = len(shaped.variants)
+            body += f"    let found = enter_variant(reader, budget, {count}, Reason::InvalidEnumVariant, place)?;\n"
+            body += "    match found.index {\n"
             for index, (variant, parts) in enumerate(shaped.variants):
-                body += f"        {index if index < len(shaped.variants) - 1 else '_'} => {{\n{arm(group, shaped, variant, parts)}        }}\n"
+                taken = index if index < count - 1 else "_"
+                body += f"        {taken} => {{\n{arm(group, shaped, variant, parts)}        }}\n"
             body += "    }\n"
         text += reads(
             group,
@@ -291,7 +283,7 @@ def reading(group):
             body,
         )
     for shaped, variant, parts in group.payloads:
-        name = variant_name(shaped, variant)
+        name = shaped.fields_word(variant)
         body = (
             "    budget.take(1);\n"
             + fields_read(parts, "left")
@@ -318,7 +310,7 @@ def reading(group):
 """
         text += reads(
             group,
-            f"read_{shaped.word}_option",
+            f"read_{shaped.inner('option')}",
             f"Option<Box<{shaped.of}>>",
             f"(option_tree ({shaped.word}_tree left))",
             option_datum(shaped),
@@ -336,7 +328,7 @@ def reading(group):
 """
         text += reads(
             group,
-            f"read_{shaped.word}_list",
+            f"read_{shaped.inner('list')}",
             f"Vec<{shaped.of}>",
             f"(seq_tree ({shaped.word}_tree left))",
             list_datum(shaped),
@@ -381,25 +373,24 @@ def payload_datum(parts):
         return "(λ d. d)"
     if len(parts) == 1:
         return parts[0].datum()
-    return f"(λ t. tuple {data_of([applied(part.datum(), field_in('t', place, len(parts))) for place, part in enumerate(parts)])})"
+    data = [applied(part.datum(), field_in("t", place, len(parts))) for place, part in enumerate(parts)]
+    return f"(λ t. tuple {data_of(data)})"
 
 
 def arm(group, shaped, variant, parts):
     indent = " " * 12
     owner = f"{shaped.name}::{variant.name}"
     if not parts:
-        return f"{indent}budget.take(1);\n{indent}Ok({owner})\n"
+        return f"{indent}budget.take(1);\n{indent}Ok({built(owner, variant.fields, variant.kind, [])})\n"
     if len(parts) == 1:
         if parts[0].kind == "other":
             text = f"{indent}let held: {parts[0].rust} = read_at(alloc, reader, budget, below, found.place)?;\n"
         else:
             text = held_read(parts[0], "below", "found.place", "held", "value", indent)
         return text + f"{indent}Ok({built(owner, variant.fields, variant.kind, ['held'])})\n"
-    text = f"{indent}let held = read_{variant_name(shaped, variant)}(alloc, reader, budget, below, found.place)?;\n"
-    return (
-        text
-        + f"{indent}Ok({built(owner, variant.fields, variant.kind, [f'held.{place}' for place in range(len(parts))])})\n"
-    )
+    text = f"{indent}let held = read_{shaped.fields_word(variant)}(alloc, reader, budget, below, found.place)?;\n"
+    names = [f"held.{place}" for place in range(len(parts))]
+    return text + f"{indent}Ok({built(owner, variant.fields, variant.kind, names)})\n"
 
 
 def nested(names):
@@ -419,7 +410,8 @@ def write_body(shaped):
     for index, (variant, parts) in enumerate(shaped.variants):
         names, taken = bound_names(variant), bound(variant)
         held = "&()" if not names else names[0] if len(names) == 1 else f"&({', '.join(names)})"
-        body += f"            {shaped.name}::{variant.name}{taken} => {{\n                write_variant({held}, {index}, writer, below, place)\n            }}\n"
+        call = f"write_variant({held}, {index}, writer, below, place)"
+        body += f"            {shaped.name}::{variant.name}{taken} => {{\n                {call}\n            }}\n"
     return body + "        }\n"
 
 
@@ -479,10 +471,11 @@ def code(group):
     for shaped in group.all:
         text = (struct_declaration if shaped.is_struct else enum_declaration)(shaped.item)
         cycle = f"#[cycle({group.module}_types)]\n" if shaped in group.types and len(group.types) > 1 else ""
-        declared += "\n" + re.sub(r"^(?=#\[derive|pub |struct |enum )", cycle, text.strip(), count=1, flags=re.M) + "\n"
+        head = r"^(?=#\[derive|pub[ (]|struct |enum )"
+        declared += "\n" + re.sub(head, cycle, text.strip(), count=1, flags=re.M) + "\n"
     text = declared + "".join(impls(group, one) for one in group.all)
     own = " ".join(f"{shaped.word}_tree {shaped.word}_trees {shaped.word}_datum" for shaped in group.types)
-    own += " " + " ".join(f"{variant_name(shaped, variant)}_trees" for shaped, variant, _ in group.payloads)
+    own += " " + " ".join(f"{shaped.fields_word(variant)}_trees" for shaped, variant, _ in group.payloads)
     functions = reading(group)
     text += functions
     names = ", ".join(f"`{one.name}`" for one in group.all)

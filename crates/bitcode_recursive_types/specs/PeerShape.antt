@@ -1,20 +1,14 @@
 -- The shapes of `Peer`, and the content of their values. Written by `scripts/second_format`.
-use Rattle.std.specs.Prelude.{ℕ, zero, suc, map, string_bytes}
+use Rattle.std.specs.Prelude.{ℕ, map, string_bytes}
 use Rattle.std.specs.Box.{boxed_slice_items}
 use Rattle.std.specs.Net.Addr.{ipv4_octets, ipv6_octets}
 use Rattle.std.specs.Net.Socket.{v4_ip, v4_port}
 use Rattle.std.specs.Rc.{rc_str_bytes}
 use Rattle.std.specs.VecDeque.{deque_items}
 use Rattle.bitcode_shapes.specs.Addresses.{ip_family}
-use Rattle.bitcode_serde_types.specs.Arrays.{array_tree, array_datum, repeated, repeated_sound}
+use Rattle.bitcode_serde_types.specs.Arrays.{array_tree, array_datum, repeated_sound, repeated_plain}
 use Rattle.bitcode_serde_types.specs.Written.{Datum, text, list, tuple, no_data, datum_and, data_of, width_1, width_2, natural, ShapeTree, natural_tree, text_tree, seq_tree, tuple_tree, no_trees, tree_and, IsSound, HasNoMap, result_tree, result_datum}
-use Rattle.bitcode_serde_types.specs.Restates.{HaveNoMap}
 use Rattle.bitcode_recursive_types.specs.declared.peer.Peer.{Peer}
-
--- there is no map in the elements of an array, if there is none in their shape
-repeated_plain : (n : ℕ) (s : ShapeTree) → HasNoMap s → HaveNoMap (repeated n s)
-repeated_plain zero s h = tt
-repeated_plain (suc n) s h = (h, repeated_plain n s h)
 
 -- the shape of `Peer`
 abbrev pub peer_tree : ℕ → ShapeTree
