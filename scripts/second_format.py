@@ -102,6 +102,8 @@ def own_in(type_, own):
 
 # In the logic, a tuple of more fields is a nest of pairs.
 MOST_FLAT = 12
+# Of more fields, some of which borrow, the checker did not prove that references to them live long enough.
+MOST_BORROWING = 9
 
 
 def field_in(value, place, count):
@@ -516,9 +518,10 @@ IN_A_STRUCT = "an option of the type itself is supported in a struct only: add a
 def refuse_large(item):
     """Refuses a struct with too many fields, or an enum with too many variants, or one of them with too many fields."""
     if isinstance(item, Struct):
-        # the checker stops at its step limit where it is to prove that 24 nested references live long enough
-        if len(item.fields) > MOST_FIELDS:
-            why = "a struct has at most 16 fields in the second format: write structs for some of them"
+        # the checker is to prove that nested references live long enough: of fewer fields, where some borrow
+        most, what = (MOST_BORROWING, "a struct that borrows") if item.lifetime else (MOST_FIELDS, "a struct")
+        if len(item.fields) > most:
+            why = f"{what} has at most {most} fields in the second format: write structs for some of them"
             raise Refused(item.line, why)
         return
     if len(item.variants) > 256:
