@@ -15,6 +15,8 @@ OF_TOOLS = set("cold clippy inline rustfmt".split())
 # What serde and the Rust crate say in attributes and no byte depends on.
 NO_BYTE = set("alias borrow bound bound_type content crate deny_unknown_fields expecting flatten rename rename_all "
               "rename_all_fields skip_serializing_if tag transparent untagged".split())
+# A `Vec<u8>` is written as bytes anyway.
+AS_BYTES = ["with", "=", '"serde_bytes"']
 ALL_WRITTEN = "all fields are written, in their order"
 OTHER_TYPE = "remove it, encode and decode the other type, and convert in your own code"
 BY_FUNCTION = "write a type of your own for the field, which holds what the function writes"
@@ -132,8 +134,8 @@ class Attributes:
 
     def of_serde(self, inner, line):
         """Takes off what no byte depends on, and refuses the rest with what to write instead."""
-        words = [part[0] for part in parted(inner[2:-1])]
-        others = [word for word in words if word not in NO_BYTE]
+        parts = parted(inner[2:-1])
+        others = [part[0] for part in parts if part[0] not in NO_BYTE and part != AS_BYTES]
         for word in others:
             instead = INSTEAD.get(word, "remove it")
             self.told.fault(line, f"`#[{inner[0]}({word})]` is not supported: {instead}")
