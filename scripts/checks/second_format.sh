@@ -1,8 +1,8 @@
 #!/usr/bin/env bash
 # What scripts/second_format writes: the types of bitcode_recursive_types are up to date. For 10,000 random values of
-# them, 10,000 maps of them, and 500 values of types with fields of all kinds that CI does not prove, `serialize_as`
-# writes the bytes of `serialize` for the same content under the type's shape, and `deserialize_as`,
-# `deserialize_as_within` and `deserialize` read the same content of them.
+# recursive ones, 10,000 maps of them, 500 polygons, and 500 values of types with fields of all kinds that CI does not
+# prove, `serialize_as` writes the bytes of `serialize` for the same content under the type's shape, and
+# `deserialize_as`, `deserialize_as_within` and `deserialize` read the same content of them.
 cd "$(dirname "$0")/../.." || exit 2
 work=$(mktemp -d)
 trap 'rm -rf "$work"' EXIT
@@ -30,7 +30,7 @@ echo "unproved_types: $below" >>"$work/crates.txt"
 uses="$below bitcode_recursive_types unproved_types anyhow"
 add_program "$work" random_values scripts/recursive_types/values.txt "$uses" || exit 2
 (cd "$work/crates/random_values" && "$try" --optimized --steps 1000 --seconds 7200 >"$work/log" 2>&1)
-grep -q '^20500 values came back$' "$work/log" && grep -q 'checked: ended status=0' "$work/log" || {
+grep -q '^21000 values came back$' "$work/log" && grep -q 'checked: ended status=0' "$work/log" || {
   grep -m 5 -E 'error|status=|run=' "$work/log" | sed 's/^/second_format: /'
   wrong=1
 }
