@@ -8,7 +8,6 @@ use Rattle.bitcode_untyped.specs.Bounds.{column_free, all_free}
 use Rattle.bitcode_untyped.specs.ShapeTree.{ShapeTree, ShapeTrees, no_trees, tree_and}
 use Rattle.bitcode_serde.specs.Serializing.{Outcome}
 use Rattle.bitcode_serde.specs.declared.writer.state.Writer.{Writer}
-use Rattle.bitcode_serde.proofs.SerializeLemmas.{writes_none, grows_same}
 use Rattle.bitcode_serde.proofs.WalkLemmas.{take_entry}
 use Rattle.bitcode_serde_types.specs.Arrays.{repeated, array_tree, array_datum}
 use Rattle.bitcode_serde_types.specs.DeepFaults.{deep_faults, deep_faults_of_fields}
@@ -60,9 +59,6 @@ module _ {A : Type 0} (s : ShapeTree) (f : A → Datum) where
   -- the first fields of so many of a tuple were written, or one of them was refused
   abbrev pub AlikeOutcome : {B : Type 0} → Writer → ℕ → ℕ → List A → Result B Error → Writer → Type 0
   AlikeOutcome old n fields xs r new = TreesOutcome old (trees xs) n 0 fields (contents xs) r new
-
-  pub none_alike : (old : Writer) (n fields : ℕ) → AlikeOutcome old n fields [] (Ok (tt {0})) old
-  none_alike old n fields = record { writes = writes_none old old (grows_same old old refl) refl; of_trees = tt; whole = refl; refused = tt }
 
   at_joined : {B : Type 0} (old new : Writer) (n fields : ℕ) (xs ys : List A) (r : Result B Error)
       → TreesOutcome old (joined (trees xs) (trees ys)) n 0 fields (joined_data (contents xs) (contents ys)) r new → AlikeOutcome old n fields (xs ++ ys) r new
