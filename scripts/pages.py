@@ -48,7 +48,6 @@ NO_PAGES = ["docs/speed.svg", "docs/speed.tsv", "docs/columns.svg"]
 DATE = re.compile(r"\b20\d\d-\d\d-\d\d\b")
 BY_HAND = re.compile(r"\b\d[\d,]* (?:tests|edits|must-fail edits|functions|crates)\b")
 TEST = r"^#\[test\]"
-OWN_WORDS = re.compile(r"\b(lawful|spells?|spelled|listings?)\b")
 STILTED = re.compile(
     r"\b(one's own|in turn|as (it|they) stands?|stands? (in|for|at|with|after|beside)|by itself|what is (more|left))\b",
     re.I,
