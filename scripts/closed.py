@@ -43,7 +43,7 @@ WEIGHTS = {
     "SocketAddrV6": 6,
 }
 # What `use` lines bring in for coders of one's own.
-NEEDED = "bitcode::coder::{Buffer, ColumnFree, Decoder, Encoder, HoldsColumns, HoldsData, View}"
+NEEDED = "bitcode::coder::{Buffer, ColumnFree, Decoder, Encoder, HoldsData, View}"
 
 # The columns of an encoder, which are those of the encoder that it forwards to.
 HOLDER = """/// The columns of `$simple`.
@@ -52,19 +52,17 @@ pub struct ${simple}Encoder {
     fields: $held,
 }
 
-impl HoldsColumns for ${simple}Encoder {
-    ghost columns = { λ e. ⟦<$held as HoldsColumns>⟧.columns e.fields };
-
-    ghost room = { λ e. ⟦<$held as HoldsColumns>⟧.room e.fields };
-
-    ghost capacity = { λ e. ⟦<$held as HoldsColumns>⟧.capacity e.fields };
-
-    ghost surely_overflows = { λ e n. SurelyOverflows $shape (⟦<$held as HoldsColumns>⟧.columns e.fields) n };
-
-    ghost overflows = { λ e n. ⟦<$held as HoldsColumns>⟧.overflows e.fields n };
-}
-
 impl Buffer for ${simple}Encoder {
+    ghost columns = { λ e. ⟦<$held as Buffer>⟧.columns e.fields };
+
+    ghost room = { λ e. ⟦<$held as Buffer>⟧.room e.fields };
+
+    ghost capacity = { λ e. ⟦<$held as Buffer>⟧.capacity e.fields };
+
+    ghost surely_overflows = { λ e n. SurelyOverflows $shape (⟦<$held as Buffer>⟧.columns e.fields) n };
+
+    ghost overflows = { λ e n. ⟦<$held as Buffer>⟧.overflows e.fields n };
+
     fn new(alloc: Global) -> Self {
         ${simple}Encoder { fields: Buffer::new(alloc) }
     }

@@ -141,7 +141,7 @@ pub mod own {
 /// The traits of coders, the result type of their calls, calls that write one value, what a decoder tells about
 /// elements without columns, and `both`, which combines the results of two reads.
 pub mod coder {
-    pub use bitcode_coder::coder::{Buffer, Decoder, Encoder, HoldsColumns, HoldsData, View, both};
+    pub use bitcode_coder::coder::{Buffer, Decoder, Encoder, HoldsData, View, both};
     pub use bitcode_coder::column_free::ColumnFree;
     pub use bitcode_coder::one::{write_length, write_one};
     pub use bitcode_coder::result::Result;

@@ -14,7 +14,7 @@ ghost use Rattle.bitcode_coder.specs.Coder.{IsReadingRefusal};
 ghost use Rattle.bitcode_coder.specs.FirstFault.{IsFirstFault};
 ghost use Rattle.bitcode_coder.specs.Strict.{JudgesData};
 
-use crate::coder::{Buffer, Decoder, Encoder, HoldsColumns, HoldsData, View};
+use crate::coder::{Buffer, Decoder, Encoder, HoldsData, View};
 use crate::column_free::ColumnFree;
 use crate::part::Part;
 use bitcode_columns::pack::pack_bools;
@@ -49,7 +49,7 @@ pub struct BoolEncoder {
     values: FastVec<bool>,
 }
 
-impl HoldsColumns for BoolEncoder {
+impl Buffer for BoolEncoder {
     ghost columns = { λ e. one bools (map truth (fast_items e.values)) };
 
     ghost room = { λ e. fast_room e.values };
@@ -59,9 +59,7 @@ impl HoldsColumns for BoolEncoder {
     ghost surely_overflows = { λ e n. ⊥ };
 
     ghost overflows = { λ e n. ⊥ };
-}
 
-impl Buffer for BoolEncoder {
     fn new(alloc: Global) -> Self {
         BoolEncoder {
             alloc,

@@ -25,10 +25,10 @@ use std::alloc::Global;
 /// The maximal number of references that [`Encoder::encode_vectored`] accepts.
 pub const MAX_VECTORED_CHUNK: usize = 64;
 
-/// The columns of an encoder.
+/// Columns to which values are added one by one.
 ///
-/// It has no functions: the contracts of `Buffer` and `Encoder` are stated in terms of these columns.
-pub trait HoldsColumns {
+/// After an error only [`Buffer::clear`] may follow, which empties the columns.
+pub trait Buffer {
     // the columns so far
     ghost columns: { Self → Columns };
 
@@ -43,12 +43,7 @@ pub trait HoldsColumns {
 
     // that so many more values make a number of arrays pass is found before memory is asked for
     ghost overflows: { Self → ℕ → Type 0 };
-}
 
-/// Columns to which values are added one by one.
-///
-/// After an error only [`Buffer::clear`] may follow, which empties the columns.
-pub trait Buffer: HoldsColumns {
     /// Creates empty columns without allocating.
     fn new(alloc: Global) -> Self
         ensures empty { Self.columns result ≡ emptied (Self.columns result) }
@@ -101,7 +96,7 @@ pub trait Buffer: HoldsColumns {
 }
 
 /// Columns that values of `T` can be added to.
-pub trait Encoder<T: Shaped>: HoldsColumns {
+pub trait Encoder<T: Shaped>: Buffer {
     // writing a value takes no memory, where room for it was reserved
     ghost writes_free: { Bool };
 

@@ -6,7 +6,7 @@ ghost use Rattle.bitcode_coder.specs.Columns.{no_columns};
 ghost use Rattle.bitcode_coder.specs.Coder.{endless_room};
 
 use crate::derive::{DecodeOwned, HasDecoder, HasEncoder};
-use bitcode_coder::coder::{Buffer, Decoder, Encoder, HoldsColumns, HoldsData, View};
+use bitcode_coder::coder::{Buffer, Decoder, Encoder, HoldsData, View};
 use bitcode_coder::column_free::ColumnFree;
 use bitcode_memory::error::{Error, Reason};
 use bitcode_memory::refuse::err;
@@ -22,7 +22,7 @@ use std::alloc::Global;
 #[derive(Drop)]
 pub struct AbsentEncoder {}
 
-impl HoldsColumns for AbsentEncoder {
+impl Buffer for AbsentEncoder {
     ghost columns = { λ e. no_columns };
 
     ghost room = { λ e. endless_room };
@@ -32,9 +32,7 @@ impl HoldsColumns for AbsentEncoder {
     ghost surely_overflows = { λ e n. ⊥ };
 
     ghost overflows = { λ e n. ⊥ };
-}
 
-impl Buffer for AbsentEncoder {
     fn new(_alloc: Global) -> Self {
         AbsentEncoder {}
     }

@@ -20,11 +20,11 @@ pub trait HasEncoder {
 /// A type that can be encoded: every lawful type whose encoder accepts its values.
 ///
 /// It has no impls of its own. The calls that encode whole values drop the encoder.
-pub trait Encode: HasEncoder<Encoder: Buffer + Encoder<Self> + Drop> + Shaped {}
+pub trait Encode: HasEncoder<Encoder: Encoder<Self> + Drop> + Shaped {}
 
 impl<T: HasEncoder + Shaped> Encode for T
 where
-    T::Encoder: Buffer + Encoder<T> + Drop,
+    T::Encoder: Encoder<T> + Drop,
 {}
 
 /// Names the decoder of a type, for an input that outlives `'a`.

@@ -10,7 +10,7 @@ ghost use Rattle.bitcode_coder.specs.Columns.{lengths, one, two};
 ghost use Rattle.bitcode_coder.specs.Length.{written_lengths, length_room, length_capacity, lengths_sum};
 ghost use Rattle.bitcode_coder.specs.Spelling.{natural};
 
-use bitcode_coder::coder::{Buffer, Decoder, Encoder, HoldsColumns, HoldsData, View};
+use bitcode_coder::coder::{Buffer, Decoder, Encoder, HoldsData, View};
 use bitcode_coder::column_free::ColumnFree;
 use bitcode_coder::length::LengthEncoder;
 use bitcode_memory::error::{Error, Reason};
@@ -42,7 +42,7 @@ pub struct MapEncoder<K, V> {
     values: V,
 }
 
-impl<K: HoldsColumns, V: HoldsColumns> HoldsColumns for MapEncoder<K, V> {
+impl<K: Buffer, V: Buffer> Buffer for MapEncoder<K, V> {
     ghost columns = { λ e. two (one (lengths None) (map natural (written_lengths e.lengths)))
         (two (K.columns e.keys) (V.columns e.values)) };
 
@@ -53,9 +53,7 @@ impl<K: HoldsColumns, V: HoldsColumns> HoldsColumns for MapEncoder<K, V> {
     ghost surely_overflows = { λ e n. ⊥ };
 
     ghost overflows = { λ e n. ⊥ };
-}
 
-impl<K: Buffer, V: Buffer> Buffer for MapEncoder<K, V> {
     fn new(alloc: Global) -> Self {
         MapEncoder {
             lengths: LengthEncoder::new(alloc),
@@ -81,8 +79,7 @@ impl<K: Buffer, V: Buffer> Buffer for MapEncoder<K, V> {
     }
 }
 
-impl<M: Mapping, K: Buffer + Encoder<M::Key>, V: Buffer + Encoder<M::Value>> Encoder<M>
-    for MapEncoder<K, V> {
+impl<M: Mapping, K: Encoder<M::Key>, V: Encoder<M::Value>> Encoder<M> for MapEncoder<K, V> {
     ghost writes_free = { false };
 
     fn encode(&mut self, t: &M) -> Result<(), Error> {

@@ -11,7 +11,7 @@ use crate::enums::{Enum, EnumOf};
 use crate::number::At;
 use crate::payload_columns::PayloadColumns;
 use crate::writes::WritesVariants;
-use bitcode_coder::coder::{Buffer, Encoder, HoldsColumns, MAX_VECTORED_CHUNK};
+use bitcode_coder::coder::{Buffer, Encoder, MAX_VECTORED_CHUNK};
 use bitcode_coder::part::{Part, told_parts};
 use bitcode_memory::error::Error;
 use bitcode_parts::choices::gathered::{SaysVariant, gather_variants};
@@ -34,7 +34,7 @@ pub struct EnumEncoder<const N: usize, C> {
     payloads: PayloadColumns<C>,
 }
 
-impl<const N: usize, C: VariantColumns> HoldsColumns for EnumEncoder<N, C> {
+impl<const N: usize, C: VariantColumns> Buffer for EnumEncoder<N, C> {
     ghost columns = { λ e. variant_columns N (written_variants e.variants)
         (all_columns (C.columns.lists e.payloads.columns)) };
 
@@ -45,9 +45,7 @@ impl<const N: usize, C: VariantColumns> HoldsColumns for EnumEncoder<N, C> {
     ghost surely_overflows = { λ e n. ⊥ };
 
     ghost overflows = { λ e n. ⊥ };
-}
 
-impl<const N: usize, C: VariantColumns> Buffer for EnumEncoder<N, C> {
     fn new(alloc: Global) -> Self {
         EnumEncoder {
             variants: VariantEncoder::new(alloc),

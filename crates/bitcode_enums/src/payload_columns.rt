@@ -9,7 +9,7 @@ use crate::columns::VariantColumns;
 use crate::enums::{Enum, EnumOf};
 use crate::number::At;
 use crate::writes::WritesVariants;
-use bitcode_coder::coder::{Buffer, HoldsColumns};
+use bitcode_coder::coder::Buffer;
 use bitcode_memory::error::Error;
 use std::alloc::Global;
 
@@ -25,7 +25,7 @@ pub struct PayloadColumns<C> {
     columns: C,
 }
 
-impl<C: VariantColumns> HoldsColumns for PayloadColumns<C> {
+impl<C: VariantColumns> Buffer for PayloadColumns<C> {
     ghost columns = { λ e. all_columns (C.columns.lists e.columns) };
 
     ghost room = { λ e. endless_room };
@@ -35,9 +35,7 @@ impl<C: VariantColumns> HoldsColumns for PayloadColumns<C> {
     ghost surely_overflows = { λ e n. ⊥ };
 
     ghost overflows = { λ e n. ⊥ };
-}
 
-impl<C: VariantColumns> Buffer for PayloadColumns<C> {
     fn new(alloc: Global) -> Self {
         PayloadColumns {
             columns: C::new(alloc),

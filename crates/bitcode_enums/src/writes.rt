@@ -7,7 +7,7 @@ ghost use Rattle.bitcode_enums.specs.ByNumber.{columns_at, AreColumnsOf, KeepsOt
 use crate::columns::VariantColumns;
 use crate::enums::Enum;
 use crate::number::VariantNumber;
-use bitcode_coder::coder::{Buffer, Encoder, HoldsColumns};
+use bitcode_coder::coder::{Buffer, Encoder};
 use bitcode_memory::error::Error;
 use bitcode_shapes::shaped::Shaped;
 use bitcode_tuples::fields::{Fields, FieldsEncoder};
@@ -73,19 +73,19 @@ pub trait WritesVariants<First: VariantNumber, End: VariantNumber, C: VariantCol
 /// encode_payload_fields(&mut columns, &(&7, &9))?;
 /// assert_eq!(rt; columns.collect(alloc)?.as_slice(), [7, 9, 0].as_slice());
 /// ```
-pub fn encode_payload_fields<F: Fields, E: Buffer + Encoder<F::Whole> + FieldsEncoder<F>>(
+pub fn encode_payload_fields<F: Fields, E: Encoder<F::Whole> + FieldsEncoder<F>>(
     columns: &mut E,
     fields: &F,
 ) -> Result<(), Error>
     ensures joined { OnOk result
         (JoinsListing F.Whole.data.lists F.Whole.data.shape (F.whole fields.now)
-        (E.HoldsColumns.columns columns.old) (E.HoldsColumns.columns columns.new)) }
-    ensures form { emptied (E.HoldsColumns.columns columns.new) ≡ emptied
-        (E.HoldsColumns.columns columns.old) }
+        (E.Buffer.columns columns.old) (E.Buffer.columns columns.new)) }
+    ensures form { emptied (E.Buffer.columns columns.new) ≡ emptied
+        (E.Buffer.columns columns.old) }
     ensures refused { IfErr result
         (λ e. IsWritingRefusal e.reason
         (OverflowsWithListing F.Whole.data.lists F.Whole.data.shape (F.whole fields.now)
-        (E.HoldsColumns.columns columns.old))) }
+        (E.Buffer.columns columns.old))) }
 {
     fields.told();
     columns.reserve(1)?;

@@ -14,7 +14,7 @@ ghost use Rattle.bitcode_coder.specs.FirstFault.{IsFirstFault};
 ghost use Rattle.bitcode_coder.specs.Strict.{JudgesData};
 ghost use Rattle.bitcode_floats.specs.Floats.{data_of_floats, data_of_bits};
 
-use bitcode_coder::coder::{Buffer, Decoder, Encoder, HoldsColumns, HoldsData, View};
+use bitcode_coder::coder::{Buffer, Decoder, Encoder, HoldsData, View};
 use bitcode_coder::column_free::ColumnFree;
 use bitcode_coder::part::Part;
 use bitcode_float_columns::split::{SplitBits, pack_f32s, read_f32s};
@@ -52,7 +52,7 @@ pub struct F32Encoder {
     values: FastVec<f32>,
 }
 
-impl HoldsColumns for F32Encoder {
+impl Buffer for F32Encoder {
     ghost columns = { λ e. one (floats binary32) (data_of_floats binary32 (fast_items e.values)) };
 
     ghost room = { λ e. fast_room e.values };
@@ -62,9 +62,7 @@ impl HoldsColumns for F32Encoder {
     ghost surely_overflows = { λ e n. ⊥ };
 
     ghost overflows = { λ e n. ⊥ };
-}
 
-impl Buffer for F32Encoder {
     fn new(alloc: Global) -> Self {
         F32Encoder {
             alloc,

@@ -15,7 +15,7 @@ ghost use Rattle.bitcode_coder.specs.Strict.{JudgesData};
 ghost use Rattle.bitcode_floats.specs.Floats.{data_of_bits, long_bits, residue_of};
 
 use crate::direct::{keep_whole_width, write_whole};
-use bitcode_coder::coder::{Buffer, Decoder, Encoder, HoldsColumns, HoldsData, View, both};
+use bitcode_coder::coder::{Buffer, Decoder, Encoder, HoldsData, View, both};
 use bitcode_coder::column_free::ColumnFree;
 use bitcode_coder::part::{Itself, Part};
 use bitcode_float_columns::bits::{bits_of_f64s, is_canonical_f64};
@@ -86,7 +86,7 @@ pub struct F64Encoder {
     bits: FastVec<u64>,
 }
 
-impl HoldsColumns for F64Encoder {
+impl Buffer for F64Encoder {
     ghost columns = { λ e. one (floats binary64) (map natural (fast_items e.bits)) };
 
     ghost room = { λ e. fast_room e.bits };
@@ -96,9 +96,7 @@ impl HoldsColumns for F64Encoder {
     ghost surely_overflows = { λ e n. ⊥ };
 
     ghost overflows = { λ e n. ⊥ };
-}
 
-impl Buffer for F64Encoder {
     fn new(alloc: Global) -> Self {
         F64Encoder {
             alloc,

@@ -18,7 +18,7 @@ ghost use Rattle.bitcode_coder.specs.ColumnFree.{free_count, saturated};
 ghost use Rattle.bitcode_coder.specs.Strict.{JudgesData};
 ghost use Rattle.bitcode_ints.specs.Int.{int_data, bytes_data, PushesInts, WritesInts};
 
-use bitcode_coder::coder::{Buffer, Decoder, Encoder, HoldsColumns, HoldsData, View};
+use bitcode_coder::coder::{Buffer, Decoder, Encoder, HoldsData, View};
 use bitcode_coder::column_free::ColumnFree;
 use bitcode_coder::part::Part;
 use bitcode_int_columns::column_int::ColumnInt;
@@ -155,7 +155,7 @@ pub struct IntEncoder<T: ColumnInt> {
     values: FastVec<T>,
 }
 
-impl<T: ColumnInt> HoldsColumns for IntEncoder<T> {
+impl<T: ColumnInt> Buffer for IntEncoder<T> {
     ghost columns = { λ e. one (ints T.width T.signed) (int_data T.number (fast_items e.values)) };
 
     ghost room = { λ e. fast_room e.values };
@@ -165,9 +165,7 @@ impl<T: ColumnInt> HoldsColumns for IntEncoder<T> {
     ghost surely_overflows = { λ e n. ⊥ };
 
     ghost overflows = { λ e n. ⊥ };
-}
 
-impl<T: ColumnInt> Buffer for IntEncoder<T> {
     fn new(alloc: Global) -> Self {
         IntEncoder {
             alloc,

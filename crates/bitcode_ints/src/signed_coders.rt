@@ -4,7 +4,7 @@ ghost use Rattle.std.specs.Prelude.{refl, IfSome};
 ghost use Rattle.bitcode_coder.specs.Coder.{ReadsValue, ReadsValues};
 
 use crate::int::{IntDecoder, IntEncoder};
-use bitcode_coder::coder::{Buffer, Decoder, Encoder, HoldsColumns, HoldsData, View};
+use bitcode_coder::coder::{Buffer, Decoder, Encoder, HoldsData, View};
 use bitcode_coder::column_free::ColumnFree;
 use bitcode_coder::direct::{list_by_decoder, one_by_decoder};
 use bitcode_coder::part::Part;
@@ -25,19 +25,17 @@ pub struct I8Encoder {
     column: IntEncoder<i8>,
 }
 
-impl HoldsColumns for I8Encoder {
-    ghost columns = { λ e. ⟦<IntEncoder<i8> as HoldsColumns>⟧.columns e.column };
+impl Buffer for I8Encoder {
+    ghost columns = { λ e. ⟦<IntEncoder<i8> as Buffer>⟧.columns e.column };
 
-    ghost room = { λ e. ⟦<IntEncoder<i8> as HoldsColumns>⟧.room e.column };
+    ghost room = { λ e. ⟦<IntEncoder<i8> as Buffer>⟧.room e.column };
 
-    ghost capacity = { λ e. ⟦<IntEncoder<i8> as HoldsColumns>⟧.capacity e.column };
+    ghost capacity = { λ e. ⟦<IntEncoder<i8> as Buffer>⟧.capacity e.column };
 
     ghost surely_overflows = { λ e n. ⊥ };
 
-    ghost overflows = { λ e n. ⟦<IntEncoder<i8> as HoldsColumns>⟧.overflows e.column n };
-}
+    ghost overflows = { λ e n. ⟦<IntEncoder<i8> as Buffer>⟧.overflows e.column n };
 
-impl Buffer for I8Encoder {
     fn new(alloc: Global) -> Self {
         I8Encoder {
             column: IntEncoder::new(alloc),
@@ -183,19 +181,17 @@ pub struct I16Encoder {
     column: IntEncoder<i16>,
 }
 
-impl HoldsColumns for I16Encoder {
-    ghost columns = { λ e. ⟦<IntEncoder<i16> as HoldsColumns>⟧.columns e.column };
+impl Buffer for I16Encoder {
+    ghost columns = { λ e. ⟦<IntEncoder<i16> as Buffer>⟧.columns e.column };
 
-    ghost room = { λ e. ⟦<IntEncoder<i16> as HoldsColumns>⟧.room e.column };
+    ghost room = { λ e. ⟦<IntEncoder<i16> as Buffer>⟧.room e.column };
 
-    ghost capacity = { λ e. ⟦<IntEncoder<i16> as HoldsColumns>⟧.capacity e.column };
+    ghost capacity = { λ e. ⟦<IntEncoder<i16> as Buffer>⟧.capacity e.column };
 
     ghost surely_overflows = { λ e n. ⊥ };
 
-    ghost overflows = { λ e n. ⟦<IntEncoder<i16> as HoldsColumns>⟧.overflows e.column n };
-}
+    ghost overflows = { λ e n. ⟦<IntEncoder<i16> as Buffer>⟧.overflows e.column n };
 
-impl Buffer for I16Encoder {
     fn new(alloc: Global) -> Self {
         I16Encoder {
             column: IntEncoder::new(alloc),
@@ -341,19 +337,17 @@ pub struct I32Encoder {
     column: IntEncoder<i32>,
 }
 
-impl HoldsColumns for I32Encoder {
-    ghost columns = { λ e. ⟦<IntEncoder<i32> as HoldsColumns>⟧.columns e.column };
+impl Buffer for I32Encoder {
+    ghost columns = { λ e. ⟦<IntEncoder<i32> as Buffer>⟧.columns e.column };
 
-    ghost room = { λ e. ⟦<IntEncoder<i32> as HoldsColumns>⟧.room e.column };
+    ghost room = { λ e. ⟦<IntEncoder<i32> as Buffer>⟧.room e.column };
 
-    ghost capacity = { λ e. ⟦<IntEncoder<i32> as HoldsColumns>⟧.capacity e.column };
+    ghost capacity = { λ e. ⟦<IntEncoder<i32> as Buffer>⟧.capacity e.column };
 
     ghost surely_overflows = { λ e n. ⊥ };
 
-    ghost overflows = { λ e n. ⟦<IntEncoder<i32> as HoldsColumns>⟧.overflows e.column n };
-}
+    ghost overflows = { λ e n. ⟦<IntEncoder<i32> as Buffer>⟧.overflows e.column n };
 
-impl Buffer for I32Encoder {
     fn new(alloc: Global) -> Self {
         I32Encoder {
             column: IntEncoder::new(alloc),
@@ -499,19 +493,17 @@ pub struct I64Encoder {
     column: IntEncoder<i64>,
 }
 
-impl HoldsColumns for I64Encoder {
-    ghost columns = { λ e. ⟦<IntEncoder<i64> as HoldsColumns>⟧.columns e.column };
+impl Buffer for I64Encoder {
+    ghost columns = { λ e. ⟦<IntEncoder<i64> as Buffer>⟧.columns e.column };
 
-    ghost room = { λ e. ⟦<IntEncoder<i64> as HoldsColumns>⟧.room e.column };
+    ghost room = { λ e. ⟦<IntEncoder<i64> as Buffer>⟧.room e.column };
 
-    ghost capacity = { λ e. ⟦<IntEncoder<i64> as HoldsColumns>⟧.capacity e.column };
+    ghost capacity = { λ e. ⟦<IntEncoder<i64> as Buffer>⟧.capacity e.column };
 
     ghost surely_overflows = { λ e n. ⊥ };
 
-    ghost overflows = { λ e n. ⟦<IntEncoder<i64> as HoldsColumns>⟧.overflows e.column n };
-}
+    ghost overflows = { λ e n. ⟦<IntEncoder<i64> as Buffer>⟧.overflows e.column n };
 
-impl Buffer for I64Encoder {
     fn new(alloc: Global) -> Self {
         I64Encoder {
             column: IntEncoder::new(alloc),
@@ -657,19 +649,17 @@ pub struct I128Encoder {
     column: IntEncoder<i128>,
 }
 
-impl HoldsColumns for I128Encoder {
-    ghost columns = { λ e. ⟦<IntEncoder<i128> as HoldsColumns>⟧.columns e.column };
+impl Buffer for I128Encoder {
+    ghost columns = { λ e. ⟦<IntEncoder<i128> as Buffer>⟧.columns e.column };
 
-    ghost room = { λ e. ⟦<IntEncoder<i128> as HoldsColumns>⟧.room e.column };
+    ghost room = { λ e. ⟦<IntEncoder<i128> as Buffer>⟧.room e.column };
 
-    ghost capacity = { λ e. ⟦<IntEncoder<i128> as HoldsColumns>⟧.capacity e.column };
+    ghost capacity = { λ e. ⟦<IntEncoder<i128> as Buffer>⟧.capacity e.column };
 
     ghost surely_overflows = { λ e n. ⊥ };
 
-    ghost overflows = { λ e n. ⟦<IntEncoder<i128> as HoldsColumns>⟧.overflows e.column n };
-}
+    ghost overflows = { λ e n. ⟦<IntEncoder<i128> as Buffer>⟧.overflows e.column n };
 
-impl Buffer for I128Encoder {
     fn new(alloc: Global) -> Self {
         I128Encoder {
             column: IntEncoder::new(alloc),
@@ -815,19 +805,17 @@ pub struct IsizeEncoder {
     column: IntEncoder<isize>,
 }
 
-impl HoldsColumns for IsizeEncoder {
-    ghost columns = { λ e. ⟦<IntEncoder<isize> as HoldsColumns>⟧.columns e.column };
+impl Buffer for IsizeEncoder {
+    ghost columns = { λ e. ⟦<IntEncoder<isize> as Buffer>⟧.columns e.column };
 
-    ghost room = { λ e. ⟦<IntEncoder<isize> as HoldsColumns>⟧.room e.column };
+    ghost room = { λ e. ⟦<IntEncoder<isize> as Buffer>⟧.room e.column };
 
-    ghost capacity = { λ e. ⟦<IntEncoder<isize> as HoldsColumns>⟧.capacity e.column };
+    ghost capacity = { λ e. ⟦<IntEncoder<isize> as Buffer>⟧.capacity e.column };
 
     ghost surely_overflows = { λ e n. ⊥ };
 
-    ghost overflows = { λ e n. ⟦<IntEncoder<isize> as HoldsColumns>⟧.overflows e.column n };
-}
+    ghost overflows = { λ e n. ⟦<IntEncoder<isize> as Buffer>⟧.overflows e.column n };
 
-impl Buffer for IsizeEncoder {
     fn new(alloc: Global) -> Self {
         IsizeEncoder {
             column: IntEncoder::new(alloc),

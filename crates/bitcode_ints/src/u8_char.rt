@@ -5,7 +5,7 @@ ghost use Rattle.bitcode_coder.specs.Columns.{raws, one};
 ghost use Rattle.bitcode_ints.specs.U8Char.{raw_data};
 ghost use Rattle.bitcode_coder.specs.Spelling.{natural};
 
-use bitcode_coder::coder::{Buffer, Encoder, HoldsColumns};
+use bitcode_coder::coder::{Buffer, Encoder};
 use bitcode_coder::part::{Itself, Part};
 use bitcode_memory::error::Error;
 use bitcode_memory::fast::{FastVec, PushUnchecked};
@@ -56,7 +56,7 @@ pub struct U8CharEncoder {
     bytes: FastVec<u8>,
 }
 
-impl HoldsColumns for U8CharEncoder {
+impl Buffer for U8CharEncoder {
     ghost columns = { λ e. one raws (map natural (fast_items e.bytes)) };
 
     ghost room = { λ e. fast_room e.bytes };
@@ -66,9 +66,7 @@ impl HoldsColumns for U8CharEncoder {
     ghost surely_overflows = { λ e n. ⊥ };
 
     ghost overflows = { λ e n. ⊥ };
-}
 
-impl Buffer for U8CharEncoder {
     fn new(alloc: Global) -> Self {
         U8CharEncoder {
             alloc,

@@ -4,7 +4,7 @@ ghost use Rattle.std.specs.Prelude.{refl, IfSome};
 ghost use Rattle.bitcode_coder.specs.Coder.{ReadsValue, ReadsValues};
 
 use crate::int::{IntDecoder, IntEncoder};
-use bitcode_coder::coder::{Buffer, Decoder, Encoder, HoldsColumns, HoldsData, View};
+use bitcode_coder::coder::{Buffer, Decoder, Encoder, HoldsData, View};
 use bitcode_coder::column_free::ColumnFree;
 use bitcode_coder::direct::{list_by_decoder, one_by_decoder};
 use bitcode_coder::part::Part;
@@ -25,19 +25,17 @@ pub struct U8Encoder {
     column: IntEncoder<u8>,
 }
 
-impl HoldsColumns for U8Encoder {
-    ghost columns = { λ e. ⟦<IntEncoder<u8> as HoldsColumns>⟧.columns e.column };
+impl Buffer for U8Encoder {
+    ghost columns = { λ e. ⟦<IntEncoder<u8> as Buffer>⟧.columns e.column };
 
-    ghost room = { λ e. ⟦<IntEncoder<u8> as HoldsColumns>⟧.room e.column };
+    ghost room = { λ e. ⟦<IntEncoder<u8> as Buffer>⟧.room e.column };
 
-    ghost capacity = { λ e. ⟦<IntEncoder<u8> as HoldsColumns>⟧.capacity e.column };
+    ghost capacity = { λ e. ⟦<IntEncoder<u8> as Buffer>⟧.capacity e.column };
 
     ghost surely_overflows = { λ e n. ⊥ };
 
-    ghost overflows = { λ e n. ⟦<IntEncoder<u8> as HoldsColumns>⟧.overflows e.column n };
-}
+    ghost overflows = { λ e n. ⟦<IntEncoder<u8> as Buffer>⟧.overflows e.column n };
 
-impl Buffer for U8Encoder {
     fn new(alloc: Global) -> Self {
         U8Encoder {
             column: IntEncoder::new(alloc),
@@ -183,19 +181,17 @@ pub struct U16Encoder {
     column: IntEncoder<u16>,
 }
 
-impl HoldsColumns for U16Encoder {
-    ghost columns = { λ e. ⟦<IntEncoder<u16> as HoldsColumns>⟧.columns e.column };
+impl Buffer for U16Encoder {
+    ghost columns = { λ e. ⟦<IntEncoder<u16> as Buffer>⟧.columns e.column };
 
-    ghost room = { λ e. ⟦<IntEncoder<u16> as HoldsColumns>⟧.room e.column };
+    ghost room = { λ e. ⟦<IntEncoder<u16> as Buffer>⟧.room e.column };
 
-    ghost capacity = { λ e. ⟦<IntEncoder<u16> as HoldsColumns>⟧.capacity e.column };
+    ghost capacity = { λ e. ⟦<IntEncoder<u16> as Buffer>⟧.capacity e.column };
 
     ghost surely_overflows = { λ e n. ⊥ };
 
-    ghost overflows = { λ e n. ⟦<IntEncoder<u16> as HoldsColumns>⟧.overflows e.column n };
-}
+    ghost overflows = { λ e n. ⟦<IntEncoder<u16> as Buffer>⟧.overflows e.column n };
 
-impl Buffer for U16Encoder {
     fn new(alloc: Global) -> Self {
         U16Encoder {
             column: IntEncoder::new(alloc),
@@ -341,19 +337,17 @@ pub struct U32Encoder {
     column: IntEncoder<u32>,
 }
 
-impl HoldsColumns for U32Encoder {
-    ghost columns = { λ e. ⟦<IntEncoder<u32> as HoldsColumns>⟧.columns e.column };
+impl Buffer for U32Encoder {
+    ghost columns = { λ e. ⟦<IntEncoder<u32> as Buffer>⟧.columns e.column };
 
-    ghost room = { λ e. ⟦<IntEncoder<u32> as HoldsColumns>⟧.room e.column };
+    ghost room = { λ e. ⟦<IntEncoder<u32> as Buffer>⟧.room e.column };
 
-    ghost capacity = { λ e. ⟦<IntEncoder<u32> as HoldsColumns>⟧.capacity e.column };
+    ghost capacity = { λ e. ⟦<IntEncoder<u32> as Buffer>⟧.capacity e.column };
 
     ghost surely_overflows = { λ e n. ⊥ };
 
-    ghost overflows = { λ e n. ⟦<IntEncoder<u32> as HoldsColumns>⟧.overflows e.column n };
-}
+    ghost overflows = { λ e n. ⟦<IntEncoder<u32> as Buffer>⟧.overflows e.column n };
 
-impl Buffer for U32Encoder {
     fn new(alloc: Global) -> Self {
         U32Encoder {
             column: IntEncoder::new(alloc),
@@ -499,19 +493,17 @@ pub struct U64Encoder {
     column: IntEncoder<u64>,
 }
 
-impl HoldsColumns for U64Encoder {
-    ghost columns = { λ e. ⟦<IntEncoder<u64> as HoldsColumns>⟧.columns e.column };
+impl Buffer for U64Encoder {
+    ghost columns = { λ e. ⟦<IntEncoder<u64> as Buffer>⟧.columns e.column };
 
-    ghost room = { λ e. ⟦<IntEncoder<u64> as HoldsColumns>⟧.room e.column };
+    ghost room = { λ e. ⟦<IntEncoder<u64> as Buffer>⟧.room e.column };
 
-    ghost capacity = { λ e. ⟦<IntEncoder<u64> as HoldsColumns>⟧.capacity e.column };
+    ghost capacity = { λ e. ⟦<IntEncoder<u64> as Buffer>⟧.capacity e.column };
 
     ghost surely_overflows = { λ e n. ⊥ };
 
-    ghost overflows = { λ e n. ⟦<IntEncoder<u64> as HoldsColumns>⟧.overflows e.column n };
-}
+    ghost overflows = { λ e n. ⟦<IntEncoder<u64> as Buffer>⟧.overflows e.column n };
 
-impl Buffer for U64Encoder {
     fn new(alloc: Global) -> Self {
         U64Encoder {
             column: IntEncoder::new(alloc),
@@ -657,19 +649,17 @@ pub struct U128Encoder {
     column: IntEncoder<u128>,
 }
 
-impl HoldsColumns for U128Encoder {
-    ghost columns = { λ e. ⟦<IntEncoder<u128> as HoldsColumns>⟧.columns e.column };
+impl Buffer for U128Encoder {
+    ghost columns = { λ e. ⟦<IntEncoder<u128> as Buffer>⟧.columns e.column };
 
-    ghost room = { λ e. ⟦<IntEncoder<u128> as HoldsColumns>⟧.room e.column };
+    ghost room = { λ e. ⟦<IntEncoder<u128> as Buffer>⟧.room e.column };
 
-    ghost capacity = { λ e. ⟦<IntEncoder<u128> as HoldsColumns>⟧.capacity e.column };
+    ghost capacity = { λ e. ⟦<IntEncoder<u128> as Buffer>⟧.capacity e.column };
 
     ghost surely_overflows = { λ e n. ⊥ };
 
-    ghost overflows = { λ e n. ⟦<IntEncoder<u128> as HoldsColumns>⟧.overflows e.column n };
-}
+    ghost overflows = { λ e n. ⟦<IntEncoder<u128> as Buffer>⟧.overflows e.column n };
 
-impl Buffer for U128Encoder {
     fn new(alloc: Global) -> Self {
         U128Encoder {
             column: IntEncoder::new(alloc),
@@ -815,19 +805,17 @@ pub struct UsizeEncoder {
     column: IntEncoder<usize>,
 }
 
-impl HoldsColumns for UsizeEncoder {
-    ghost columns = { λ e. ⟦<IntEncoder<usize> as HoldsColumns>⟧.columns e.column };
+impl Buffer for UsizeEncoder {
+    ghost columns = { λ e. ⟦<IntEncoder<usize> as Buffer>⟧.columns e.column };
 
-    ghost room = { λ e. ⟦<IntEncoder<usize> as HoldsColumns>⟧.room e.column };
+    ghost room = { λ e. ⟦<IntEncoder<usize> as Buffer>⟧.room e.column };
 
-    ghost capacity = { λ e. ⟦<IntEncoder<usize> as HoldsColumns>⟧.capacity e.column };
+    ghost capacity = { λ e. ⟦<IntEncoder<usize> as Buffer>⟧.capacity e.column };
 
     ghost surely_overflows = { λ e n. ⊥ };
 
-    ghost overflows = { λ e n. ⟦<IntEncoder<usize> as HoldsColumns>⟧.overflows e.column n };
-}
+    ghost overflows = { λ e n. ⟦<IntEncoder<usize> as Buffer>⟧.overflows e.column n };
 
-impl Buffer for UsizeEncoder {
     fn new(alloc: Global) -> Self {
         UsizeEncoder {
             column: IntEncoder::new(alloc),

@@ -5,7 +5,7 @@ ghost use Rattle.bitcode.specs.ByHand.{SurelyOverflows, data_as, field_alike, li
 
 use crate::home::Home;
 use crate::trophy::Trophy;
-use bitcode::coder::{Buffer, ColumnFree, Decoder, Encoder, HoldsColumns, HoldsData, View};
+use bitcode::coder::{Buffer, ColumnFree, Decoder, Encoder, HoldsData, View};
 use bitcode::own::{
     DecoderOfFields, HasField, InFields, Nth, Part, PartEncoder, StructEncoder, reserve_as,
     reserve_part,
@@ -629,20 +629,18 @@ pub struct AccountPart0Encoder {
     fields: Held0<'static>,
 }
 
-impl HoldsColumns for AccountPart0Encoder {
-    ghost columns = { λ e. ⟦<Held0<'static> as HoldsColumns>⟧.columns e.fields };
+impl Buffer for AccountPart0Encoder {
+    ghost columns = { λ e. ⟦<Held0<'static> as Buffer>⟧.columns e.fields };
 
-    ghost room = { λ e. ⟦<Held0<'static> as HoldsColumns>⟧.room e.fields };
+    ghost room = { λ e. ⟦<Held0<'static> as Buffer>⟧.room e.fields };
 
-    ghost capacity = { λ e. ⟦<Held0<'static> as HoldsColumns>⟧.capacity e.fields };
+    ghost capacity = { λ e. ⟦<Held0<'static> as Buffer>⟧.capacity e.fields };
 
     ghost surely_overflows = { λ e n. SurelyOverflows ⟦<Pairs0<'static> as Shaped>⟧.data.shape
-        (⟦<Held0<'static> as HoldsColumns>⟧.columns e.fields) n };
+        (⟦<Held0<'static> as Buffer>⟧.columns e.fields) n };
 
-    ghost overflows = { λ e n. ⟦<Held0<'static> as HoldsColumns>⟧.overflows e.fields n };
-}
+    ghost overflows = { λ e n. ⟦<Held0<'static> as Buffer>⟧.overflows e.fields n };
 
-impl Buffer for AccountPart0Encoder {
     fn new(alloc: Global) -> Self {
         AccountPart0Encoder {
             fields: Buffer::new(alloc),
@@ -710,20 +708,18 @@ pub struct AccountPart1Encoder {
     fields: Held1,
 }
 
-impl HoldsColumns for AccountPart1Encoder {
-    ghost columns = { λ e. ⟦<Held1 as HoldsColumns>⟧.columns e.fields };
+impl Buffer for AccountPart1Encoder {
+    ghost columns = { λ e. ⟦<Held1 as Buffer>⟧.columns e.fields };
 
-    ghost room = { λ e. ⟦<Held1 as HoldsColumns>⟧.room e.fields };
+    ghost room = { λ e. ⟦<Held1 as Buffer>⟧.room e.fields };
 
-    ghost capacity = { λ e. ⟦<Held1 as HoldsColumns>⟧.capacity e.fields };
+    ghost capacity = { λ e. ⟦<Held1 as Buffer>⟧.capacity e.fields };
 
     ghost surely_overflows = { λ e n. SurelyOverflows ⟦<Pairs1 as Shaped>⟧.data.shape
-        (⟦<Held1 as HoldsColumns>⟧.columns e.fields) n };
+        (⟦<Held1 as Buffer>⟧.columns e.fields) n };
 
-    ghost overflows = { λ e n. ⟦<Held1 as HoldsColumns>⟧.overflows e.fields n };
-}
+    ghost overflows = { λ e n. ⟦<Held1 as Buffer>⟧.overflows e.fields n };
 
-impl Buffer for AccountPart1Encoder {
     fn new(alloc: Global) -> Self {
         AccountPart1Encoder {
             fields: Buffer::new(alloc),
@@ -793,20 +789,18 @@ pub struct AccountPart2Encoder {
     fields: Held2,
 }
 
-impl HoldsColumns for AccountPart2Encoder {
-    ghost columns = { λ e. ⟦<Held2 as HoldsColumns>⟧.columns e.fields };
+impl Buffer for AccountPart2Encoder {
+    ghost columns = { λ e. ⟦<Held2 as Buffer>⟧.columns e.fields };
 
-    ghost room = { λ e. ⟦<Held2 as HoldsColumns>⟧.room e.fields };
+    ghost room = { λ e. ⟦<Held2 as Buffer>⟧.room e.fields };
 
-    ghost capacity = { λ e. ⟦<Held2 as HoldsColumns>⟧.capacity e.fields };
+    ghost capacity = { λ e. ⟦<Held2 as Buffer>⟧.capacity e.fields };
 
     ghost surely_overflows = { λ e n. SurelyOverflows ⟦<Pairs2 as Shaped>⟧.data.shape
-        (⟦<Held2 as HoldsColumns>⟧.columns e.fields) n };
+        (⟦<Held2 as Buffer>⟧.columns e.fields) n };
 
-    ghost overflows = { λ e n. ⟦<Held2 as HoldsColumns>⟧.overflows e.fields n };
-}
+    ghost overflows = { λ e n. ⟦<Held2 as Buffer>⟧.overflows e.fields n };
 
-impl Buffer for AccountPart2Encoder {
     fn new(alloc: Global) -> Self {
         AccountPart2Encoder {
             fields: Buffer::new(alloc),
@@ -894,20 +888,18 @@ pub struct AccountEncoder {
     fields: Held,
 }
 
-impl HoldsColumns for AccountEncoder {
-    ghost columns = { λ e. ⟦<Held as HoldsColumns>⟧.columns e.fields };
+impl Buffer for AccountEncoder {
+    ghost columns = { λ e. ⟦<Held as Buffer>⟧.columns e.fields };
 
-    ghost room = { λ e. ⟦<Held as HoldsColumns>⟧.room e.fields };
+    ghost room = { λ e. ⟦<Held as Buffer>⟧.room e.fields };
 
-    ghost capacity = { λ e. ⟦<Held as HoldsColumns>⟧.capacity e.fields };
+    ghost capacity = { λ e. ⟦<Held as Buffer>⟧.capacity e.fields };
 
     ghost surely_overflows = { λ e n. SurelyOverflows ⟦<Account<'static> as Shaped>⟧.data.shape
-        (⟦<Held as HoldsColumns>⟧.columns e.fields) n };
+        (⟦<Held as Buffer>⟧.columns e.fields) n };
 
-    ghost overflows = { λ e n. ⟦<Held as HoldsColumns>⟧.overflows e.fields n };
-}
+    ghost overflows = { λ e n. ⟦<Held as Buffer>⟧.overflows e.fields n };
 
-impl Buffer for AccountEncoder {
     fn new(alloc: Global) -> Self {
         AccountEncoder {
             fields: Buffer::new(alloc),

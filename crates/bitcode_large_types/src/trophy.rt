@@ -2,7 +2,7 @@
 ghost use Rattle.std.specs.Prelude.{◌&&◌, IfSome};
 ghost use Rattle.bitcode.specs.ByHand.{ReadsValue, SurelyOverflows, data_as, field_alike, pair_alike, refl};
 
-use bitcode::coder::{Buffer, ColumnFree, Decoder, Encoder, HoldsColumns, HoldsData, View};
+use bitcode::coder::{Buffer, ColumnFree, Decoder, Encoder, HoldsData, View};
 use bitcode::own::{DecoderOfFields, HasField, InFields, Nth, Part, StructEncoder, reserve_as};
 use bitcode::{ConvertFrom, DecodeOwned, Error, HasDecoder, HasEncoder, Shaped};
 use std::alloc::Global;
@@ -78,20 +78,18 @@ pub struct TrophyEncoder {
     fields: Held,
 }
 
-impl HoldsColumns for TrophyEncoder {
-    ghost columns = { λ e. ⟦<Held as HoldsColumns>⟧.columns e.fields };
+impl Buffer for TrophyEncoder {
+    ghost columns = { λ e. ⟦<Held as Buffer>⟧.columns e.fields };
 
-    ghost room = { λ e. ⟦<Held as HoldsColumns>⟧.room e.fields };
+    ghost room = { λ e. ⟦<Held as Buffer>⟧.room e.fields };
 
-    ghost capacity = { λ e. ⟦<Held as HoldsColumns>⟧.capacity e.fields };
+    ghost capacity = { λ e. ⟦<Held as Buffer>⟧.capacity e.fields };
 
     ghost surely_overflows = { λ e n. SurelyOverflows ⟦<Trophy as Shaped>⟧.data.shape
-        (⟦<Held as HoldsColumns>⟧.columns e.fields) n };
+        (⟦<Held as Buffer>⟧.columns e.fields) n };
 
-    ghost overflows = { λ e n. ⟦<Held as HoldsColumns>⟧.overflows e.fields n };
-}
+    ghost overflows = { λ e n. ⟦<Held as Buffer>⟧.overflows e.fields n };
 
-impl Buffer for TrophyEncoder {
     fn new(alloc: Global) -> Self {
         TrophyEncoder {
             fields: Buffer::new(alloc),

@@ -13,7 +13,7 @@ ghost use Rattle.bitcode_parts.specs.Arrays.{array_room, ArraysOverflow, arrays_
 ghost use Rattle.bitcode_parts.specs.ArrayLaws.{arrays_of_shape, arrays_overflow, same_array_shape};
 
 use crate::lists::sequence::{decode_each, encode_each};
-use bitcode_coder::coder::{Buffer, Decoder, Encoder, HoldsColumns, HoldsData, View};
+use bitcode_coder::coder::{Buffer, Decoder, Encoder, HoldsData, View};
 use bitcode_coder::column_free::ColumnFree;
 use bitcode_memory::consume::mul_length;
 use bitcode_memory::error::{Error, Reason};
@@ -42,7 +42,7 @@ pub struct ArrayEncoder<E, const N: usize> {
     ghost uncounted: { N ≡ 0 → count ≡ 0 },
 }
 
-impl<E: HoldsColumns, const N: usize> HoldsColumns for ArrayEncoder<E, N> {
+impl<E: Buffer, const N: usize> Buffer for ArrayEncoder<E, N> {
     ghost columns = { λ e. array_columns N e.count (E.columns e.elements) };
 
     ghost room = { λ e. array_room N e.count (E.room e.elements) };
@@ -52,9 +52,7 @@ impl<E: HoldsColumns, const N: usize> HoldsColumns for ArrayEncoder<E, N> {
     ghost surely_overflows = { λ e n. ArraysOverflow N E.surely_overflows e.elements e.count n };
 
     ghost overflows = { λ e n. ArraysOverflow N E.overflows e.elements e.count n };
-}
 
-impl<E: Buffer, const N: usize> Buffer for ArrayEncoder<E, N> {
     fn new(alloc: Global) -> Self {
         ArrayEncoder {
             elements: E::new(alloc),

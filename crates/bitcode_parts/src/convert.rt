@@ -4,7 +4,7 @@ ghost use Rattle.std.proofs.Common.{sym, ◌∙◌};
 ghost use Rattle.bitcode_coder.specs.Coder.{ListsAsToo, MakesToo};
 ghost use Rattle.bitcode_parts.specs.Convert.{IsWrittenAs, surely_as};
 
-use bitcode_coder::coder::{Buffer, Decoder, Encoder, HoldsColumns, HoldsData, View};
+use bitcode_coder::coder::{Buffer, Decoder, Encoder, HoldsData, View};
 use bitcode_coder::column_free::ColumnFree;
 use bitcode_memory::error::{Error, Reason};
 use bitcode_shapes::shaped::Shaped;
@@ -75,7 +75,7 @@ pub struct ConvertIntoEncoder<T, E> {
     of: PhantomData<T>,
 }
 
-impl<T: Drop, E: HoldsColumns> HoldsColumns for ConvertIntoEncoder<T, E> {
+impl<T: Drop, E: Buffer> Buffer for ConvertIntoEncoder<T, E> {
     ghost columns = { λ e. E.columns e.inner };
 
     ghost room = { λ e. E.room e.inner };
@@ -85,9 +85,7 @@ impl<T: Drop, E: HoldsColumns> HoldsColumns for ConvertIntoEncoder<T, E> {
     ghost surely_overflows = { λ e n. E.surely_overflows e.inner n };
 
     ghost overflows = { λ e n. E.overflows e.inner n };
-}
 
-impl<T: Drop, E: Buffer> Buffer for ConvertIntoEncoder<T, E> {
     fn new(alloc: Global) -> Self {
         ConvertIntoEncoder {
             inner: E::new(alloc),

@@ -5,7 +5,7 @@ ghost use Rattle.bitcode_shapes.specs.Shape.{unit_shape};
 ghost use Rattle.bitcode_coder.specs.Columns.{no_columns};
 ghost use Rattle.bitcode_coder.specs.Coder.{endless_room};
 
-use bitcode_coder::coder::{Buffer, Decoder, Encoder, HoldsColumns, HoldsData, View};
+use bitcode_coder::coder::{Buffer, Decoder, Encoder, HoldsData, View};
 use bitcode_coder::column_free::ColumnFree;
 use bitcode_memory::error::Error;
 use std::alloc::Global;
@@ -19,7 +19,7 @@ pub struct EmptyCoder {
     left: usize,
 }
 
-impl HoldsColumns for EmptyCoder {
+impl Buffer for EmptyCoder {
     ghost columns = { λ e. no_columns };
 
     ghost room = { λ e. endless_room };
@@ -29,9 +29,7 @@ impl HoldsColumns for EmptyCoder {
     ghost surely_overflows = { λ e n. ⊥ };
 
     ghost overflows = { λ e n. ⊥ };
-}
 
-impl Buffer for EmptyCoder {
     fn new(alloc: Global) -> Self {
         View::new(alloc)
     }

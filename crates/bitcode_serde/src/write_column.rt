@@ -53,7 +53,7 @@ const FEW: usize = 16;
 
 // Makes room for an entry, and writes it.
 #[inline(always)]
-fn join<T: Shaped, E: Buffer + Encoder<T>>(column: &mut E, entry: &T) -> Result<(), Error>
+fn join<T: Shaped, E: Encoder<T>>(column: &mut E, entry: &T) -> Result<(), Error>
     ensures joined { OnOk result
         (JoinsListing T.data.lists T.data.shape entry.now (E.columns column.old)
         (E.columns column.new)) }
@@ -83,7 +83,7 @@ fn gather<'b, T: Case>(values: &'b [Value], held: &mut [&'b T; MAX_VECTORED_CHUN
 }
 
 // Writes 1 to 64 values of one case; the first one holds `first`. Room for them was reserved.
-fn join_held<'b, T: Case, E: Buffer + Encoder<T>>(
+fn join_held<'b, T: Case, E: Encoder<T>>(
     column: &mut E,
     values: &'b [Value],
     first: &'b T,
@@ -110,7 +110,7 @@ fn join_held<'b, T: Case, E: Buffer + Encoder<T>>(
 
 // Writes a value of one case. Room for it was reserved.
 #[inline(always)]
-fn join_next<T: Case, E: Buffer + Encoder<T>>(column: &mut E, value: &Value) -> Result<(), Error>
+fn join_next<T: Case, E: Encoder<T>>(column: &mut E, value: &Value) -> Result<(), Error>
     requires { 0 < E.room column.old }
     ensures joined { OnOk result
         (E.columns column.new ≡ beside (E.columns column.old)
@@ -131,10 +131,7 @@ fn join_next<T: Case, E: Buffer + Encoder<T>>(column: &mut E, value: &Value) -> 
 }
 
 // Writes values of one case, one after another. Room for them was reserved.
-fn join_in_turn<T: Case, E: Buffer + Encoder<T>>(
-    column: &mut E,
-    values: &[Value],
-) -> Result<(), Error>
+fn join_in_turn<T: Case, E: Encoder<T>>(column: &mut E, values: &[Value]) -> Result<(), Error>
     requires { length values.now ≤ E.room column.old }
     ensures joined { OnOk result
         (E.columns column.new ≡ beside (E.columns column.old)
@@ -152,10 +149,7 @@ fn join_in_turn<T: Case, E: Buffer + Encoder<T>>(
 
 // Writes 1 to 64 values of one case. Room for them was reserved.
 #[inline(never)]
-fn join_chunk<T: Case, E: Buffer + Encoder<T>>(
-    column: &mut E,
-    values: &[Value],
-) -> Result<(), Error>
+fn join_chunk<T: Case, E: Encoder<T>>(column: &mut E, values: &[Value]) -> Result<(), Error>
     requires chunk { (0 < length values.now) × (length values.now ≤ MAX_VECTORED_CHUNK) }
     requires room { length values.now ≤ E.room column.old }
     ensures joined { OnOk result
@@ -175,7 +169,7 @@ fn join_chunk<T: Case, E: Buffer + Encoder<T>>(
 
 // Makes room for a value of one case, and writes it.
 #[inline(always)]
-fn join_one<T: Case, E: Buffer + Encoder<T>>(column: &mut E, value: &Value) -> Result<(), Error>
+fn join_one<T: Case, E: Encoder<T>>(column: &mut E, value: &Value) -> Result<(), Error>
     requires { (e : E) (n : ℕ) → E.surely_overflows e n → ⊥ }
     ensures joined { OnOk result
         (E.columns column.new ≡ beside (E.columns column.old)
@@ -198,7 +192,7 @@ fn join_one<T: Case, E: Buffer + Encoder<T>>(column: &mut E, value: &Value) -> R
 }
 
 // Makes room for values of one case, and writes them.
-fn join_each<T: Case, E: Buffer + Encoder<T>>(column: &mut E, values: &[Value]) -> Result<(), Error>
+fn join_each<T: Case, E: Encoder<T>>(column: &mut E, values: &[Value]) -> Result<(), Error>
     requires { (e : E) (n : ℕ) → E.surely_overflows e n → ⊥ }
     ensures joined { OnOk result
         (E.columns column.new ≡ beside (E.columns column.old)

@@ -18,10 +18,7 @@ use bitcode_tuples::part_encoder::PartEncoder;
 ///     reserve_part::<Player, (Nth<0>, Nth<1>), _>(&mut self.fields, n)
 /// }
 /// ```
-pub fn reserve_part<T, K, E: Buffer + PartEncoder<T, K>>(
-    encoder: &mut E,
-    n: usize,
-) -> Result<(), Error>
+pub fn reserve_part<T, K, E: PartEncoder<T, K>>(encoder: &mut E, n: usize) -> Result<(), Error>
     ensures columns { E.columns encoder.new ≡ E.columns encoder.old }
     ensures ok { OnOk result (n ≤ E.room encoder.new) }
     ensures grows { E.room encoder.old ≤ E.room encoder.new }

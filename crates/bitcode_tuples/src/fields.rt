@@ -5,7 +5,7 @@ ghost use Rattle.bitcode_coder.specs.Coder.{BeginsWith, JoinsListing, WritesList
 ghost use Rattle.bitcode_coder.specs.Coder.{IsWritingRefusal};
 
 use crate::encoder::TupleEncoder;
-use bitcode_coder::coder::{Buffer, Encoder, HoldsColumns};
+use bitcode_coder::coder::{Buffer, Encoder};
 use bitcode_coder::one::write_one;
 use bitcode_memory::error::{Error, Reason};
 use bitcode_shapes::shaped::Shaped;
@@ -49,7 +49,7 @@ impl<F: Fields, G: Fields> Fields for (F, G) {
 }
 
 /// Like `Encoder`, for values whose fields are borrowed separately, as those of a struct are.
-pub trait FieldsEncoder<F: Fields>: HoldsColumns {
+pub trait FieldsEncoder<F: Fields>: Buffer {
     // writing the fields takes no memory, where room for them was reserved
     ghost writes_free: { Bool };
 
@@ -82,8 +82,6 @@ pub trait FieldsEncoder<F: Fields>: HoldsColumns {
     ///
     /// Errors: those of [`FieldsEncoder::encode_fields`]. `out` then begins with what it held.
     fn write_fields(&mut self, fields: &F, out: &mut Vec<u8>) -> Result<(), Error>
-    where
-        Self: Buffer,
         requires { Self.columns self.old ≡ emptied (Self.columns self.old) }
         ensures written { OnOk result
             (WritesListing F.Whole.data.lists F.Whole.data.shape (F.whole fields.now)
@@ -105,20 +103,13 @@ impl<'a, P: Shaped, E: Encoder<P>> FieldsEncoder<&'a P> for E {
         self.encode(*fields)
     }
 
-    fn write_fields(&mut self, fields: &&'a P, out: &mut Vec<u8>) -> Result<(), Error>
-    where
-        Self: Buffer,
-    {
+    fn write_fields(&mut self, fields: &&'a P, out: &mut Vec<u8>) -> Result<(), Error> {
         write_one(self, *fields, out)
     }
 }
 
-impl<
-    F: Fields,
-    G: Fields,
-    A: Buffer + FieldsEncoder<F>,
-    B: Buffer + FieldsEncoder<G>,
-> FieldsEncoder<(F, G)> for TupleEncoder<A, B> {
+impl<F: Fields, G: Fields, A: FieldsEncoder<F>, B: FieldsEncoder<G>> FieldsEncoder<(F, G)>
+    for TupleEncoder<A, B> {
     ghost writes_free = { A.writes_free && B.writes_free };
 
     fn encode_fields(&mut self, fields: &(F, G)) -> Result<(), Error> {

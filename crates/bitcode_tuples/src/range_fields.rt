@@ -30,8 +30,7 @@ impl<T: Shaped> HasField<1> for Range<T> {
     }
 }
 
-impl<T: Shaped, A: Buffer + Encoder<T>, B: Buffer + Encoder<T>> InFields<TupleEncoder<A, B>>
-    for Range<T> {
+impl<T: Shaped, A: Encoder<T>, B: Encoder<T>> InFields<TupleEncoder<A, B>> for Range<T> {
     type Numbers = (Nth<0>, Nth<1>);
 
     type Inside = ();
@@ -63,8 +62,7 @@ impl<T: Shaped> HasField<1> for RangeInclusive<T> {
     }
 }
 
-impl<T: Shaped, A: Buffer + Encoder<T>, B: Buffer + Encoder<T>> InFields<TupleEncoder<A, B>>
-    for RangeInclusive<T> {
+impl<T: Shaped, A: Encoder<T>, B: Encoder<T>> InFields<TupleEncoder<A, B>> for RangeInclusive<T> {
     type Numbers = (Nth<0>, Nth<1>);
 
     type Inside = ();

@@ -7,7 +7,7 @@ ghost use Rattle.bitcode_tuples.specs.FieldLaws.{SameListings, struct_of_shape, 
 ghost use Rattle.bitcode_tuples.specs.Pairs.{EachListed};
 
 use crate::part_encoder::PartEncoder;
-use bitcode_coder::coder::{Buffer, Encoder, HoldsColumns};
+use bitcode_coder::coder::{Buffer, Encoder};
 use bitcode_coder::part::{Part, told_parts};
 use bitcode_memory::error::Error;
 use bitcode_shapes::shaped::Shaped;
@@ -42,7 +42,7 @@ pub struct StructEncoder<E> {
     fields: E,
 }
 
-impl<E: HoldsColumns> HoldsColumns for StructEncoder<E> {
+impl<E: Buffer> Buffer for StructEncoder<E> {
     ghost columns = { λ e. E.columns e.fields };
 
     ghost room = { λ e. E.room e.fields };
@@ -52,9 +52,7 @@ impl<E: HoldsColumns> HoldsColumns for StructEncoder<E> {
     ghost surely_overflows = { λ e n. E.surely_overflows e.fields n };
 
     ghost overflows = { λ e n. E.overflows e.fields n };
-}
 
-impl<E: Buffer> Buffer for StructEncoder<E> {
     fn new(alloc: Global) -> Self {
         StructEncoder {
             fields: E::new(alloc),

@@ -12,7 +12,7 @@ ghost use Rattle.bitcode_coder.specs.LengthColumn.{length_bytes};
 ghost use Rattle.bitcode_coder.specs.LengthParts.{AreLengthParts};
 ghost use Rattle.bitcode_coder.specs.Spelling.{natural};
 
-use crate::coder::{Buffer, HoldsColumns};
+use crate::coder::Buffer;
 use crate::length::{ChunkWidth, ESCAPE, Len};
 use crate::one::write_length;
 use bitcode_columns::pack::pack_bytes;
@@ -82,7 +82,7 @@ fn push_short<T: Len>(mut small: FastVec<u8>, chunk: &[T], max: usize) -> FastVe
     small
 }
 
-impl HoldsColumns for LengthEncoder {
+impl Buffer for LengthEncoder {
     ghost use Rattle.bitcode_coder.specs.Length.{written_lengths, length_room, length_capacity};
 
     ghost columns = { λ e. one (lengths None) (map natural (written_lengths e)) };
@@ -94,9 +94,7 @@ impl HoldsColumns for LengthEncoder {
     ghost surely_overflows = { λ e n. ⊥ };
 
     ghost overflows = { λ e n. ⊥ };
-}
 
-impl Buffer for LengthEncoder {
     fn new(alloc: Global) -> Self {
         LengthEncoder {
             alloc,

@@ -10,7 +10,7 @@ ghost use Rattle.bitcode_coder.specs.PushedTexts.{PushesTexts, texts_in};
 ghost use Rattle.bitcode_coder.specs.Length.{written_lengths, length_room, length_capacity};
 ghost use Rattle.bitcode_coder.specs.LengthColumn.{length_bytes};
 
-use crate::coder::{Buffer, Encoder, HoldsColumns, MAX_VECTORED_CHUNK};
+use crate::coder::{Buffer, Encoder, MAX_VECTORED_CHUNK};
 use crate::length::LengthEncoder;
 use crate::one::write_length;
 use crate::part::Part;
@@ -201,7 +201,7 @@ impl StrEncoder {
     }
 }
 
-impl HoldsColumns for StrEncoder {
+impl Buffer for StrEncoder {
     ghost use Rattle.bitcode_coder.specs.WrittenTexts.{written_texts};
 
     ghost columns = { λ e. one (texts None) (map text (written_texts e)) };
@@ -213,9 +213,7 @@ impl HoldsColumns for StrEncoder {
     ghost surely_overflows = { λ e n. ⊥ };
 
     ghost overflows = { λ e n. ⊥ };
-}
 
-impl Buffer for StrEncoder {
     fn new(alloc: Global) -> Self {
         StrEncoder {
             alloc,

@@ -12,7 +12,7 @@ use crate::enums::Enum;
 use crate::number::VariantNumber;
 use crate::payloads::{VariantPayloads, read_and_count};
 use crate::writes::{WritesVariants, encode_payload_fields};
-use bitcode_coder::coder::{Buffer, Decoder, Encoder, HoldsColumns, HoldsData, View};
+use bitcode_coder::coder::{Buffer, Decoder, Encoder, HoldsData, View};
 use bitcode_derive::derive::{HasDecoder, HasEncoder};
 use bitcode_memory::error::Error;
 use bitcode_shapes::shaped::Shaped;

@@ -8,7 +8,7 @@ ghost use Rattle.bitcode_parts.specs.Variants.{written_variants, variant_room, v
 
 use crate::choices::gathered::{SaysVariant, gather_variants};
 use crate::choices::variant::{VariantDecoder, VariantEncoder};
-use bitcode_coder::coder::{Buffer, Decoder, Encoder, HoldsColumns, MAX_VECTORED_CHUNK};
+use bitcode_coder::coder::{Buffer, Decoder, Encoder, MAX_VECTORED_CHUNK};
 use bitcode_coder::part::Part;
 use bitcode_memory::error::Error;
 use bitcode_shapes::bare_variants::{BareShaped, BareVariants};
@@ -30,7 +30,7 @@ pub struct BareEncoder<const N: usize> {
     variants: VariantEncoder<N>,
 }
 
-impl<const N: usize> HoldsColumns for BareEncoder<N> {
+impl<const N: usize> Buffer for BareEncoder<N> {
     ghost columns = { λ e. bare_columns N (written_variants e.variants) };
 
     ghost room = { λ e. variant_room e.variants };
@@ -40,9 +40,7 @@ impl<const N: usize> HoldsColumns for BareEncoder<N> {
     ghost surely_overflows = { λ e n. ⊥ };
 
     ghost overflows = { λ e n. ⊥ };
-}
 
-impl<const N: usize> Buffer for BareEncoder<N> {
     fn new(alloc: Global) -> Self {
         BareEncoder {
             variants: VariantEncoder::new(alloc),

@@ -11,9 +11,7 @@ use crate::choices::gathered::gather_variants;
 use crate::choices::option::gathered::{OptionVariant, encode_values};
 use crate::choices::variant::{VariantDecoder, VariantEncoder, encode_payload};
 use crate::empty::EmptyCoder;
-use bitcode_coder::coder::{
-    Buffer, Decoder, Encoder, HoldsColumns, HoldsData, MAX_VECTORED_CHUNK, View, both,
-};
+use bitcode_coder::coder::{Buffer, Decoder, Encoder, HoldsData, MAX_VECTORED_CHUNK, View, both};
 use bitcode_coder::column_free::ColumnFree;
 use bitcode_coder::one::write_one;
 use bitcode_coder::part::Part;
@@ -40,8 +38,8 @@ pub struct OptionEncoder<E> {
     some: E,
 }
 
-impl<E: HoldsColumns> HoldsColumns for OptionEncoder<E> {
-    ghost columns = { λ e. two (⟦<VariantEncoder<2> as HoldsColumns>⟧.columns e.variants)
+impl<E: Buffer> Buffer for OptionEncoder<E> {
+    ghost columns = { λ e. two (⟦<VariantEncoder<2> as Buffer>⟧.columns e.variants)
         (two no_columns (two (E.columns e.some) no_columns)) };
 
     ghost room = { λ e. variant_room e.variants };
@@ -51,9 +49,7 @@ impl<E: HoldsColumns> HoldsColumns for OptionEncoder<E> {
     ghost surely_overflows = { λ e n. ⊥ };
 
     ghost overflows = { λ e n. ⊥ };
-}
 
-impl<E: Buffer> Buffer for OptionEncoder<E> {
     fn new(alloc: Global) -> Self {
         OptionEncoder {
             variants: VariantEncoder::new(alloc),
@@ -76,7 +72,7 @@ impl<E: Buffer> Buffer for OptionEncoder<E> {
     }
 }
 
-impl<T: Shaped, E: Buffer + Encoder<T>> Encoder<Option<T>> for OptionEncoder<E> {
+impl<T: Shaped, E: Encoder<T>> Encoder<Option<T>> for OptionEncoder<E> {
     ghost writes_free = { false };
 
     fn encode(&mut self, t: &Option<T>) -> Result<(), Error> {

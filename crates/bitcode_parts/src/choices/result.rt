@@ -7,7 +7,7 @@ ghost use Rattle.bitcode_parts.specs.TwoVariantLaws.{same_two_variants, two_vari
 ghost use Rattle.bitcode_parts.specs.Variants.{variant_room, variant_capacity, variants_left, variants_owned};
 
 use crate::choices::variant::{VariantDecoder, VariantEncoder, encode_payload};
-use bitcode_coder::coder::{Buffer, Decoder, Encoder, HoldsColumns, HoldsData, View, both};
+use bitcode_coder::coder::{Buffer, Decoder, Encoder, HoldsData, View, both};
 use bitcode_coder::column_free::ColumnFree;
 use bitcode_memory::error::Error;
 use bitcode_shapes::shaped::Shaped;
@@ -29,8 +29,8 @@ pub struct ResultEncoder<A, B> {
     err: B,
 }
 
-impl<A: HoldsColumns, B: HoldsColumns> HoldsColumns for ResultEncoder<A, B> {
-    ghost columns = { λ e. two (⟦<VariantEncoder<2> as HoldsColumns>⟧.columns e.variants)
+impl<A: Buffer, B: Buffer> Buffer for ResultEncoder<A, B> {
+    ghost columns = { λ e. two (⟦<VariantEncoder<2> as Buffer>⟧.columns e.variants)
         (two (A.columns e.ok) (two (B.columns e.err) no_columns)) };
 
     ghost room = { λ e. variant_room e.variants };
@@ -40,9 +40,7 @@ impl<A: HoldsColumns, B: HoldsColumns> HoldsColumns for ResultEncoder<A, B> {
     ghost surely_overflows = { λ e n. ⊥ };
 
     ghost overflows = { λ e n. ⊥ };
-}
 
-impl<A: Buffer, B: Buffer> Buffer for ResultEncoder<A, B> {
     fn new(alloc: Global) -> Self {
         ResultEncoder {
             variants: VariantEncoder::new(alloc),
@@ -68,7 +66,7 @@ impl<A: Buffer, B: Buffer> Buffer for ResultEncoder<A, B> {
     }
 }
 
-impl<T: Shaped, E: Shaped, A: Buffer + Encoder<T>, B: Buffer + Encoder<E>> Encoder<Result<T, E>>
+impl<T: Shaped, E: Shaped, A: Encoder<T>, B: Encoder<E>> Encoder<Result<T, E>>
     for ResultEncoder<A, B> {
     ghost writes_free = { false };
 

@@ -16,7 +16,7 @@ ghost use Rattle.bitcode_coder.specs.FirstFault.{IsFirstFault};
 ghost use Rattle.bitcode_coder.specs.Spelling.{Spells, natural};
 ghost use Rattle.bitcode_coder.specs.Strict.{JudgesData};
 
-use bitcode_coder::coder::{Buffer, Encoder, HoldsColumns, HoldsData, MAX_VECTORED_CHUNK, View};
+use bitcode_coder::coder::{Buffer, Encoder, HoldsData, MAX_VECTORED_CHUNK, View};
 use bitcode_coder::column_free::ColumnFree;
 use bitcode_columns::pack::pack_bytes_less_than;
 use bitcode_columns::strict::read_variants;
@@ -43,7 +43,7 @@ pub struct VariantEncoder<const N: usize> {
     ghost known: { All (λ variant. variant < N) (fast_items variants) },
 }
 
-impl<const N: usize> HoldsColumns for VariantEncoder<N> {
+impl<const N: usize> Buffer for VariantEncoder<N> {
     ghost use Rattle.bitcode_parts.specs.Variants.{written_variants, variant_room, variant_capacity};
 
     ghost columns = { λ e. one (variants N) (map natural (written_variants e)) };
@@ -55,9 +55,7 @@ impl<const N: usize> HoldsColumns for VariantEncoder<N> {
     ghost surely_overflows = { λ e n. ⊥ };
 
     ghost overflows = { λ e n. ⊥ };
-}
 
-impl<const N: usize> Buffer for VariantEncoder<N> {
     fn new(alloc: Global) -> Self {
         VariantEncoder {
             variants: FastVec::new(alloc),
@@ -305,10 +303,7 @@ impl<'a, const N: usize, const C_STYLE: bool> View<'a> for VariantDecoder<'a, N,
 /// let mut some: IntEncoder<u8> = IntEncoder::new(alloc);
 /// encode_payload(&mut some, &7)?;
 /// ```
-pub fn encode_payload<T: Shaped, E: Buffer + Encoder<T>>(
-    encoder: &mut E,
-    t: &T,
-) -> Result<(), Error>
+pub fn encode_payload<T: Shaped, E: Encoder<T>>(encoder: &mut E, t: &T) -> Result<(), Error>
     ensures joined { OnOk result
         (JoinsListing T.data.lists T.data.shape t.now (E.columns encoder.old)
         (E.columns encoder.new)) }
@@ -328,7 +323,7 @@ pub fn encode_payload<T: Shaped, E: Buffer + Encoder<T>>(
 /// let mut some: IntEncoder<u8> = IntEncoder::new(alloc);
 /// encode_payloads(&mut some, &[&7, &8])?;
 /// ```
-pub fn encode_payloads<T: Shaped, E: Buffer + Encoder<T>>(
+pub fn encode_payloads<T: Shaped, E: Encoder<T>>(
     encoder: &mut E,
     several: &[&T],
 ) -> Result<(), Error>

@@ -19,9 +19,7 @@ ghost use Rattle.bitcode_coder.specs.Length.{lengths_owned, lengths_sum};
 ghost use Rattle.bitcode_parts.specs.Lists.{lists_of, list_columns};
 
 use crate::lists::sequence::{FromElements, Sequence, decode_each};
-use bitcode_coder::coder::{
-    Buffer, Decoder, Encoder, HoldsColumns, HoldsData, MAX_VECTORED_CHUNK, View, both,
-};
+use bitcode_coder::coder::{Buffer, Decoder, Encoder, HoldsData, MAX_VECTORED_CHUNK, View, both};
 use bitcode_coder::column_free::ColumnFree;
 use bitcode_coder::length::{LengthDecoder, LengthEncoder};
 use bitcode_coder::part::{Part, told_parts};
@@ -104,7 +102,7 @@ impl<E> VecEncoder<E> {
         which: &W,
     ) -> Result<(), Error>
     where
-        E: Buffer + Encoder<S::Element>,
+        E: Encoder<S::Element>,
         requires { length items.now ≤ length_room self.old.lengths }
         ensures joined { OnOk result
             (JoinsEach S.data.lists S.data.shape (map (W.of which.now) items.now)
@@ -133,7 +131,7 @@ impl<E> VecEncoder<E> {
         which: &W,
     ) -> Result<usize, Error>
     where
-        E: Buffer + Encoder<S::Element>,
+        E: Encoder<S::Element>,
         requires chunk { length items.now ≤ MAX_VECTORED_CHUNK }
         requires room { length items.now ≤ length_room self.old.lengths }
         ensures count { IfOk result (λ n. n ≤ length items.now) }
@@ -164,7 +162,7 @@ impl<E> VecEncoder<E> {
     }
 }
 
-impl<E: HoldsColumns> HoldsColumns for VecEncoder<E> {
+impl<E: Buffer> Buffer for VecEncoder<E> {
     ghost columns = { λ e. list_columns (written_lengths e.lengths) (E.columns e.elements) };
 
     ghost room = { λ e. length_room e.lengths };
@@ -174,9 +172,7 @@ impl<E: HoldsColumns> HoldsColumns for VecEncoder<E> {
     ghost surely_overflows = { λ e n. ⊥ };
 
     ghost overflows = { λ e n. ⊥ };
-}
 
-impl<E: Buffer> Buffer for VecEncoder<E> {
     fn new(alloc: Global) -> Self {
         VecEncoder {
             alloc,
@@ -200,7 +196,7 @@ impl<E: Buffer> Buffer for VecEncoder<E> {
     }
 }
 
-impl<S: Sequence, E: Buffer + Encoder<S::Element>> Encoder<S> for VecEncoder<E> {
+impl<S: Sequence, E: Encoder<S::Element>> Encoder<S> for VecEncoder<E> {
     ghost writes_free = { false };
 
     fn encode(&mut self, t: &S) -> Result<(), Error> {

@@ -6,7 +6,7 @@ ghost use Rattle.bitcode_coder.specs.Columns.{lengths, one, two};
 
 use crate::lists::vec::VecEncoder;
 use crate::pointers::pointed::Pointed;
-use bitcode_coder::coder::{Buffer, Encoder, HoldsColumns};
+use bitcode_coder::coder::{Buffer, Encoder};
 use bitcode_coder::part::Part;
 use bitcode_memory::error::Error;
 use bitcode_shapes::shaped::Shaped;
@@ -60,7 +60,7 @@ pub struct DerefEncoder<E> {
     inner: E,
 }
 
-impl<E: HoldsColumns> HoldsColumns for DerefEncoder<E> {
+impl<E: Buffer> Buffer for DerefEncoder<E> {
     ghost columns = { λ e. E.columns e.inner };
 
     ghost room = { λ e. E.room e.inner };
@@ -70,9 +70,7 @@ impl<E: HoldsColumns> HoldsColumns for DerefEncoder<E> {
     ghost surely_overflows = { λ e n. E.surely_overflows e.inner n };
 
     ghost overflows = { λ e n. E.overflows e.inner n };
-}
 
-impl<E: Buffer> Buffer for DerefEncoder<E> {
     fn new(alloc: Global) -> Self {
         DerefEncoder {
             inner: E::new(alloc),
@@ -120,7 +118,7 @@ impl<P: Points, E: Encoder<P::Target>> Encoder<P> for DerefEncoder<E> {
         (sym P.same_shape) (E.surely e.inner n h) };
 }
 
-impl<T: Shaped, E: Buffer + Encoder<T>> Encoder<BoxedSlice<T>> for DerefEncoder<VecEncoder<E>> {
+impl<T: Shaped, E: Encoder<T>> Encoder<BoxedSlice<T>> for DerefEncoder<VecEncoder<E>> {
     ghost writes_free = { false };
 
     fn encode(&mut self, t: &BoxedSlice<T>) -> Result<(), Error> {
@@ -132,7 +130,7 @@ impl<T: Shaped, E: Buffer + Encoder<T>> Encoder<BoxedSlice<T>> for DerefEncoder<
     ghost surely = { λ e n never. absurd never };
 }
 
-impl<T: Shaped, E: Buffer + Encoder<T>> Encoder<RcSlice<T>> for DerefEncoder<VecEncoder<E>> {
+impl<T: Shaped, E: Encoder<T>> Encoder<RcSlice<T>> for DerefEncoder<VecEncoder<E>> {
     ghost writes_free = { false };
 
     fn encode(&mut self, t: &RcSlice<T>) -> Result<(), Error> {
@@ -145,7 +143,7 @@ impl<T: Shaped, E: Buffer + Encoder<T>> Encoder<RcSlice<T>> for DerefEncoder<Vec
     ghost surely = { λ e n never. absurd never };
 }
 
-impl<T: Shaped, E: Buffer + Encoder<T>> Encoder<ArcSlice<T>> for DerefEncoder<VecEncoder<E>> {
+impl<T: Shaped, E: Encoder<T>> Encoder<ArcSlice<T>> for DerefEncoder<VecEncoder<E>> {
     ghost writes_free = { false };
 
     fn encode(&mut self, t: &ArcSlice<T>) -> Result<(), Error> {

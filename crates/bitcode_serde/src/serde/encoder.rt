@@ -5,7 +5,7 @@ ghost use Rattle.std.specs.Prelude.{false, true, map, refl};
 ghost use Rattle.bitcode_coder.specs.Columns.{ints, one};
 ghost use Rattle.bitcode_coder.specs.Spelling.{natural};
 
-use bitcode_coder::coder::{Buffer, Encoder, HoldsColumns};
+use bitcode_coder::coder::{Buffer, Encoder};
 use bitcode_int_columns::column_int::ColumnInt;
 use bitcode_memory::error::Error;
 use bitcode_memory::fast::{FastVec, PushUnchecked};
@@ -29,7 +29,7 @@ pub struct VariantEncoder {
     indices: FastVec<u8>,
 }
 
-impl HoldsColumns for VariantEncoder {
+impl Buffer for VariantEncoder {
     ghost use Rattle.bitcode_serde.specs.Indices.{written_indices, index_room, index_capacity};
 
     ghost columns = { λ e. one (ints 1 false) (map natural (written_indices e)) };
@@ -41,9 +41,7 @@ impl HoldsColumns for VariantEncoder {
     ghost surely_overflows = { λ e n. ⊥ };
 
     ghost overflows = { λ e n. ⊥ };
-}
 
-impl Buffer for VariantEncoder {
     fn new(alloc: Global) -> Self {
         VariantEncoder {
             alloc,

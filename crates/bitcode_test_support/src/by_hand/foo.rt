@@ -3,7 +3,7 @@ ghost use Rattle.std.specs.Prelude.{true, min, refl, false, ◌+◌};
 ghost use Rattle.bitcode.specs.ByHand.{data_as, pairs_of, two};
 ghost use Rattle.bitcode_test_support.specs.Foo.{foo_fields};
 
-use bitcode::coder::{Buffer, ColumnFree, HoldsColumns, HoldsData, Result, both};
+use bitcode::coder::{Buffer, ColumnFree, HoldsData, Result, both};
 use bitcode::{
     Decoder, Encoder, HasDecoder, HasEncoder, IntDecoder, IntEncoder, Shaped, StrDecoder,
     StrEncoder, TupleDecoder, View,
@@ -33,22 +33,20 @@ pub struct FooEncoder {
     y: StrEncoder,
 }
 
-impl HoldsColumns for FooEncoder {
-    ghost columns = { λ e. two (⟦<IntEncoder<u32> as HoldsColumns>⟧.columns e.x)
-        (⟦<StrEncoder as HoldsColumns>⟧.columns e.y) };
+impl Buffer for FooEncoder {
+    ghost columns = { λ e. two (⟦<IntEncoder<u32> as Buffer>⟧.columns e.x)
+        (⟦<StrEncoder as Buffer>⟧.columns e.y) };
 
-    ghost room = { λ e. min (⟦<IntEncoder<u32> as HoldsColumns>⟧.room e.x)
-        (⟦<StrEncoder as HoldsColumns>⟧.room e.y) };
+    ghost room = { λ e. min (⟦<IntEncoder<u32> as Buffer>⟧.room e.x)
+        (⟦<StrEncoder as Buffer>⟧.room e.y) };
 
-    ghost capacity = { λ e. ⟦<IntEncoder<u32> as HoldsColumns>⟧.capacity e.x
-        + ⟦<StrEncoder as HoldsColumns>⟧.capacity e.y };
+    ghost capacity = { λ e. ⟦<IntEncoder<u32> as Buffer>⟧.capacity e.x
+        + ⟦<StrEncoder as Buffer>⟧.capacity e.y };
 
     ghost surely_overflows = { λ e n. ⊥ };
 
     ghost overflows = { λ e n. ⊥ };
-}
 
-impl Buffer for FooEncoder {
     fn new(alloc: Global) -> Self {
         FooEncoder {
             x: Buffer::new(alloc),

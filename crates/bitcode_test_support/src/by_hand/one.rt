@@ -3,7 +3,7 @@ ghost use Rattle.std.specs.Prelude.{true, refl};
 ghost use Rattle.bitcode.specs.ByHand.{data_as};
 ghost use Rattle.bitcode_test_support.specs.One.{one_again, one_field, one_found};
 
-use bitcode::coder::{Buffer, ColumnFree, HoldsColumns, HoldsData, Result};
+use bitcode::coder::{Buffer, ColumnFree, HoldsData, Result};
 use bitcode::{
     DecodeOwned, Decoder, Encoder, HasDecoder, HasEncoder, IntDecoder, IntEncoder, Shaped, View,
 };
@@ -29,19 +29,17 @@ pub struct OneEncoder {
     a: IntEncoder<u8>,
 }
 
-impl HoldsColumns for OneEncoder {
-    ghost columns = { λ e. ⟦<IntEncoder<u8> as HoldsColumns>⟧.columns e.a };
+impl Buffer for OneEncoder {
+    ghost columns = { λ e. ⟦<IntEncoder<u8> as Buffer>⟧.columns e.a };
 
-    ghost room = { λ e. ⟦<IntEncoder<u8> as HoldsColumns>⟧.room e.a };
+    ghost room = { λ e. ⟦<IntEncoder<u8> as Buffer>⟧.room e.a };
 
-    ghost capacity = { λ e. ⟦<IntEncoder<u8> as HoldsColumns>⟧.capacity e.a };
+    ghost capacity = { λ e. ⟦<IntEncoder<u8> as Buffer>⟧.capacity e.a };
 
     ghost surely_overflows = { λ e n. ⊥ };
 
     ghost overflows = { λ e n. ⊥ };
-}
 
-impl Buffer for OneEncoder {
     fn new(alloc: Global) -> Self {
         OneEncoder {
             a: Buffer::new(alloc),

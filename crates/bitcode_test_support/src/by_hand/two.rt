@@ -3,7 +3,7 @@ ghost use Rattle.std.specs.Prelude.{[], ◌∷◌, true, false, refl, ◌+◌};
 ghost use Rattle.bitcode.specs.ByHand.{no_columns, two, choices_of, variant_room, variants_left, variants_owned};
 ghost use Rattle.bitcode_test_support.specs.Two.{two_data};
 
-use bitcode::coder::{Buffer, ColumnFree, HoldsColumns, HoldsData, Result, both};
+use bitcode::coder::{Buffer, ColumnFree, HoldsData, Result, both};
 use bitcode::own::encode_payload;
 use bitcode::{
     DecodeOwned, Decoder, Encoder, HasDecoder, HasEncoder, IntDecoder, IntEncoder, ResultDecoder,
@@ -36,23 +36,21 @@ pub struct TwoEncoder {
     b: IntEncoder<i8>,
 }
 
-impl HoldsColumns for TwoEncoder {
-    ghost columns = { λ e. two (⟦<VariantEncoder<2> as HoldsColumns>⟧.columns e.variants)
-        (two (⟦<IntEncoder<u8> as HoldsColumns>⟧.columns e.a)
-        (two (⟦<IntEncoder<i8> as HoldsColumns>⟧.columns e.b) no_columns)) };
+impl Buffer for TwoEncoder {
+    ghost columns = { λ e. two (⟦<VariantEncoder<2> as Buffer>⟧.columns e.variants)
+        (two (⟦<IntEncoder<u8> as Buffer>⟧.columns e.a)
+        (two (⟦<IntEncoder<i8> as Buffer>⟧.columns e.b) no_columns)) };
 
     ghost room = { λ e. variant_room e.variants };
 
-    ghost capacity = { λ e. ⟦<VariantEncoder<2> as HoldsColumns>⟧.capacity e.variants
-        + ⟦<IntEncoder<u8> as HoldsColumns>⟧.capacity e.a
-        + ⟦<IntEncoder<i8> as HoldsColumns>⟧.capacity e.b };
+    ghost capacity = { λ e. ⟦<VariantEncoder<2> as Buffer>⟧.capacity e.variants
+        + ⟦<IntEncoder<u8> as Buffer>⟧.capacity e.a
+        + ⟦<IntEncoder<i8> as Buffer>⟧.capacity e.b };
 
     ghost surely_overflows = { λ e n. ⊥ };
 
     ghost overflows = { λ e n. ⊥ };
-}
 
-impl Buffer for TwoEncoder {
     fn new(alloc: Global) -> Self {
         TwoEncoder {
             variants: Buffer::new(alloc),

@@ -11,7 +11,7 @@ use Rattle.bitcode_coder.proofs.coder.Encoder.encode_part_of_each.Goals as goal
 
 pub loop-item-init : goal.loop-item-init
 loop-item-init g c = record {
-  front = front_none g.T.Shaped.data.lists g.T.Shaped.data.shape (g.Self.HoldsColumns.columns c.args.self.now) (g.met.Self.Encoder.of_shape c.args.self.now) (map (g.W.Part.of c.args.which.now) c.args.items.now);
+  front = front_none g.T.Shaped.data.lists g.T.Shaped.data.shape (g.Self.Buffer.columns c.args.self.now) (g.met.Self.Encoder.of_shape c.args.self.now) (map (g.W.Part.of c.args.which.now) c.args.items.now);
   room = omega arith;
   form = refl;
 }
@@ -27,8 +27,8 @@ returns-in_err-encode-clause-refused g c =
     let whole = map (g.W.Part.of c.args.which.now) c.args.items.now in
     let behind = drop (c.loop-item.item-index + 1) c.args.items.now in
     let rest = map (g.W.Part.of c.args.which.now) behind in
-    let old = g.Self.HoldsColumns.columns c.args.self.now in
-    let now = g.Self.HoldsColumns.columns c.loop-item.self in
+    let old = g.Self.Buffer.columns c.args.self.now in
+    let now = g.Self.Buffer.columns c.loop-item.self in
     let step = next_behind (g.W.Part.of c.args.which.now) c.args.items.now c.loop-item.item-index c.item-item.result c.loop-item-test.true c.item-item.is in
     let others =
     each_listed shape g.T.Shaped.data.is_value lists g.T.Shaped.data.same g.T.Shaped.data.in_order g.T.Shaped.data.lawful rest
@@ -46,21 +46,21 @@ loop-item-preserved g c =
     let shape = g.T.Shaped.data.shape in
     let whole = map (g.W.Part.of c.args.which.now) c.args.items.now in
     let rest = map (g.W.Part.of c.args.which.now) (drop (c.loop-item.item-index + 1) c.args.items.now) in
-    let old = g.Self.HoldsColumns.columns c.args.self.now in
-    let now = g.Self.HoldsColumns.columns c.loop-item.self in
+    let old = g.Self.Buffer.columns c.args.self.now in
+    let now = g.Self.Buffer.columns c.loop-item.self in
     let step = next_behind (g.W.Part.of c.args.which.now) c.args.items.now c.loop-item.item-index c.item-item.result c.loop-item-test.true c.item-item.is in
     record {
       front =
-          front_more lists shape old (g.met.Self.Encoder.of_shape c.args.self.now) whole rest (g.W.Part.of c.args.which.now c.item-item.result) now (g.Self.HoldsColumns.columns c.encode.new.self)
-          (subst (λ items. JoinsFront lists shape whole items old now) step c.loop-item.invariant.front) (subst (λ item. JoinsListing lists shape item now (g.Self.HoldsColumns.columns c.encode.new.self)) c.part.ensures c.in_ok-encode.ensures.joined);
+          front_more lists shape old (g.met.Self.Encoder.of_shape c.args.self.now) whole rest (g.W.Part.of c.args.which.now c.item-item.result) now (g.Self.Buffer.columns c.encode.new.self)
+          (subst (λ items. JoinsFront lists shape whole items old now) step c.loop-item.invariant.front) (subst (λ item. JoinsListing lists shape item now (g.Self.Buffer.columns c.encode.new.self)) c.part.ensures c.in_ok-encode.ensures.joined);
       room = omega (arith, c.loop-item.invariant.room, c.in_ok-encode.ensures.room);
       form = c.encode.ensures.form ∙ c.loop-item.invariant.form;
     }
 
 pub returns-clause-joined : goal.returns-clause-joined
 returns-clause-joined g c =
-    front_whole g.T.Shaped.data.lists g.T.Shaped.data.shape (g.Self.HoldsColumns.columns c.args.self.now) (g.met.Self.Encoder.of_shape c.args.self.now)
-    (map (g.W.Part.of c.args.which.now) c.args.items.now) (map (g.W.Part.of c.args.which.now) (drop c.loop-item.item-index c.args.items.now)) (g.Self.HoldsColumns.columns c.loop-item.self)
+    front_whole g.T.Shaped.data.lists g.T.Shaped.data.shape (g.Self.Buffer.columns c.args.self.now) (g.met.Self.Encoder.of_shape c.args.self.now)
+    (map (g.W.Part.of c.args.which.now) c.args.items.now) (map (g.W.Part.of c.args.which.now) (drop c.loop-item.item-index c.args.items.now)) (g.Self.Buffer.columns c.loop-item.self)
     c.loop-item.invariant.front (at_drop_all (map (g.W.Part.of c.args.which.now)) c.args.items.now c.loop-item.item-index (omega (arith, c.loop-item-test.false)))
 
 pub returns-clause-room : goal.returns-clause-room

@@ -11,7 +11,7 @@ use Rattle.bitcode_coder.proofs.coder.Encoder.encode_slice.Goals as goal
 
 pub loop-rest-init : goal.loop-rest-init
 loop-rest-init g c = record {
-  front = front_none g.T.Shaped.data.lists g.T.Shaped.data.shape (g.Self.HoldsColumns.columns c.args.self.now) (g.met.Self.Encoder.of_shape c.args.self.now) c.args.items.now;
+  front = front_none g.T.Shaped.data.lists g.T.Shaped.data.shape (g.Self.Buffer.columns c.args.self.now) (g.met.Self.Encoder.of_shape c.args.self.now) c.args.items.now;
   values = c.told_each.ensures;
   left = c.requires;
   fewer = omega arith;
@@ -26,9 +26,9 @@ loop-rest-preserved g c =
     let whole = c.args.items.now in
     let front = c.split_at.result.0.now in
     let behind = c.split_at.result.1.now in
-    let old = g.Self.HoldsColumns.columns c.args.self.now in
-    let now = g.Self.HoldsColumns.columns c.loop-rest.self in
-    let new = g.Self.HoldsColumns.columns c.encode_part_of_each.new.self in
+    let old = g.Self.Buffer.columns c.args.self.now in
+    let now = g.Self.Buffer.columns c.loop-rest.self in
+    let new = g.Self.Buffer.columns c.encode_part_of_each.new.self in
     record {
       front =
           front_more_each lists shape old (g.met.Self.Encoder.of_shape c.args.self.now) whole front behind now new
@@ -51,8 +51,8 @@ returns-in_err-encode_part_of_each-clause-refused g c =
     let whole = c.args.items.now in
     let front = c.split_at.result.0.now in
     let behind = c.split_at.result.1.now in
-    let old = g.Self.HoldsColumns.columns c.args.self.now in
-    let now = g.Self.HoldsColumns.columns c.loop-rest.self in
+    let old = g.Self.Buffer.columns c.args.self.now in
+    let now = g.Self.Buffer.columns c.loop-rest.self in
     let others =
     each_listed shape g.T.Shaped.data.is_value lists g.T.Shaped.data.same g.T.Shaped.data.in_order g.T.Shaped.data.lawful behind
     (subst (All g.T.Shaped.data.is_value) (sym c.split_at.ensures.back)

@@ -9,7 +9,7 @@ use Rattle.bitcode_parts.proofs.lists.sequence.encode_lent.Goals as goal
 
 pub loop-item-init : goal.loop-item-init
 loop-item-init g c = record {
-  front = front_none g.T.Shaped.data.lists g.T.Shaped.data.shape (g.E.HoldsColumns.columns c.args.elements.now) (g.met.E.Encoder.of_shape c.args.elements.now) (g.L.Lends.rest c.args.lent);
+  front = front_none g.T.Shaped.data.lists g.T.Shaped.data.shape (g.E.Buffer.columns c.args.elements.now) (g.met.E.Encoder.of_shape c.args.elements.now) (g.L.Lends.rest c.args.lent);
   values = c.requires.values;
   left = c.requires.room;
   fewer = omega arith;
@@ -24,12 +24,12 @@ loop-item-preserved g c =
     let whole = g.L.Lends.rest c.args.lent in
     let rest = g.L.Lends.rest c.lend.new.self in
     let item = c.in-Some.item.now in
-    let old = g.E.HoldsColumns.columns c.args.elements.now in
-    let now = g.E.HoldsColumns.columns c.loop-item.elements in
+    let old = g.E.Buffer.columns c.args.elements.now in
+    let now = g.E.Buffer.columns c.loop-item.elements in
     let shorter = ap length c.in-Some.ensures.next in
     record {
       front =
-          front_more lists shape old (g.met.E.Encoder.of_shape c.args.elements.now) whole rest item now (g.E.HoldsColumns.columns c.encode.new.self)
+          front_more lists shape old (g.met.E.Encoder.of_shape c.args.elements.now) whole rest item now (g.E.Buffer.columns c.encode.new.self)
           (subst (λ items. JoinsFront lists shape whole items old now) c.in-Some.ensures.next c.loop-item.invariant.front) c.in_ok-encode.ensures.joined;
       values = All-tail g.T.Shaped.data.is_value item rest (subst (All g.T.Shaped.data.is_value) c.in-Some.ensures.next c.loop-item.invariant.values);
       left = omega (arith, shorter, c.loop-item.invariant.left, c.in_ok-encode.ensures.room);
@@ -46,8 +46,8 @@ returns-in_err-encode-clause-refused g c =
     let whole = g.L.Lends.rest c.args.lent in
     let rest = g.L.Lends.rest c.lend.new.self in
     let item = c.in-Some.item.now in
-    let old = g.E.HoldsColumns.columns c.args.elements.now in
-    let now = g.E.HoldsColumns.columns c.loop-item.elements in
+    let old = g.E.Buffer.columns c.args.elements.now in
+    let now = g.E.Buffer.columns c.loop-item.elements in
     let others =
     each_listed shape g.T.Shaped.data.is_value lists g.T.Shaped.data.same g.T.Shaped.data.in_order g.T.Shaped.data.lawful rest
     (All-tail g.T.Shaped.data.is_value item rest (subst (All g.T.Shaped.data.is_value) c.in-Some.ensures.next c.loop-item.invariant.values)) in

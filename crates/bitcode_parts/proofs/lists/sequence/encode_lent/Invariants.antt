@@ -5,12 +5,12 @@ use Rattle.bitcode_parts.proofs.lists.sequence.encode_lent.Given as goal
 
 abbrev pub invariant-loop-item : goal.invariant-loop-item
 invariant-loop-item g l = record {
-  front : JoinsFront g.T.Shaped.data.lists g.T.Shaped.data.shape (g.L.Lends.rest l.initial.lent) (g.L.Lends.rest l.lent) (g.E.HoldsColumns.columns l.initial.elements) (g.E.HoldsColumns.columns l.elements);
+  front : JoinsFront g.T.Shaped.data.lists g.T.Shaped.data.shape (g.L.Lends.rest l.initial.lent) (g.L.Lends.rest l.lent) (g.E.Buffer.columns l.initial.elements) (g.E.Buffer.columns l.elements);
   values : All g.T.Shaped.data.is_value (g.L.Lends.rest l.lent);
-  left : length (g.L.Lends.rest l.lent) ≤ g.E.HoldsColumns.room l.elements;
+  left : length (g.L.Lends.rest l.lent) ≤ g.E.Buffer.room l.elements;
   fewer : length (g.L.Lends.rest l.lent) ≤ length (g.L.Lends.rest l.initial.lent);
-  room : g.E.HoldsColumns.room l.initial.elements + length (g.L.Lends.rest l.lent) ≤ g.E.HoldsColumns.room l.elements + length (g.L.Lends.rest l.initial.lent);
-  form : emptied (g.E.HoldsColumns.columns l.elements) ≡ emptied (g.E.HoldsColumns.columns l.initial.elements);
+  room : g.E.Buffer.room l.initial.elements + length (g.L.Lends.rest l.lent) ≤ g.E.Buffer.room l.elements + length (g.L.Lends.rest l.initial.lent);
+  form : emptied (g.E.Buffer.columns l.elements) ≡ emptied (g.E.Buffer.columns l.initial.elements);
 }
 
 abbrev pub decreases-loop-item : goal.decreases-loop-item

@@ -17,7 +17,7 @@ loop-item-init g c =
     let self = c.args.self.now in
     record {
       front =
-          front_none g.S.Shaped.data.lists g.S.Shaped.data.shape (two (one (lengths None) (map natural (written_lengths self.lengths))) (g.E.HoldsColumns.columns self.elements))
+          front_none g.S.Shaped.data.lists g.S.Shaped.data.shape (two (one (lengths None) (map natural (written_lengths self.lengths))) (g.E.Buffer.columns self.elements))
           (ap (two (one (lengths None) [])) (g.met.E.Encoder.of_shape self.elements) ∙ sym (g.met.S.Sequence.items_columns [])) (map (g.W.Part.of c.args.which.now) c.args.items.now);
       room = omega arith;
       form = refl;
@@ -36,8 +36,8 @@ returns-in_err-encode-clause-refused g c =
     let whole = map of c.args.items.now in
     let rest = map of (drop (c.loop-item.item-index + 1) c.args.items.now) in
     let form : _ = ap (two (one (lengths None) [])) (g.met.E.Encoder.of_shape self.elements) ∙ sym (g.met.S.Sequence.items_columns []) in
-    let old = two (one (lengths None) (map natural (written_lengths self.lengths))) (g.E.HoldsColumns.columns self.elements) in
-    let now = two (one (lengths None) (map natural (written_lengths c.loop-item.self.lengths))) (g.E.HoldsColumns.columns c.loop-item.self.elements) in
+    let old = two (one (lengths None) (map natural (written_lengths self.lengths))) (g.E.Buffer.columns self.elements) in
+    let now = two (one (lengths None) (map natural (written_lengths c.loop-item.self.lengths))) (g.E.Buffer.columns c.loop-item.self.elements) in
     let step = next_behind of c.args.items.now c.loop-item.item-index c.item-item.result c.loop-item-test.true c.item-item.is in
     let others =
     each_listed shape g.S.Shaped.data.is_value lists g.S.Shaped.data.same g.S.Shaped.data.in_order g.S.Shaped.data.lawful rest
@@ -59,9 +59,9 @@ loop-item-preserved g c =
     let whole = map of c.args.items.now in
     let rest = map of (drop (c.loop-item.item-index + 1) c.args.items.now) in
     let form : _ = ap (two (one (lengths None) [])) (g.met.E.Encoder.of_shape self.elements) ∙ sym (g.met.S.Sequence.items_columns []) in
-    let old = two (one (lengths None) (map natural (written_lengths self.lengths))) (g.E.HoldsColumns.columns self.elements) in
-    let now = two (one (lengths None) (map natural (written_lengths c.loop-item.self.lengths))) (g.E.HoldsColumns.columns c.loop-item.self.elements) in
-    let new = two (one (lengths None) (map natural (written_lengths c.encode.new.self.lengths))) (g.E.HoldsColumns.columns c.encode.new.self.elements) in
+    let old = two (one (lengths None) (map natural (written_lengths self.lengths))) (g.E.Buffer.columns self.elements) in
+    let now = two (one (lengths None) (map natural (written_lengths c.loop-item.self.lengths))) (g.E.Buffer.columns c.loop-item.self.elements) in
+    let new = two (one (lengths None) (map natural (written_lengths c.encode.new.self.lengths))) (g.E.Buffer.columns c.encode.new.self.elements) in
     let step = next_behind of c.args.items.now c.loop-item.item-index c.item-item.result c.loop-item-test.true c.item-item.is in
     record {
       front =
@@ -76,10 +76,10 @@ pub returns-clause-joined : goal.returns-clause-joined
 returns-clause-joined g c =
     let of = g.W.Part.of c.args.which.now in
     let self = c.args.self.now in
-    front_whole g.S.Shaped.data.lists g.S.Shaped.data.shape (two (one (lengths None) (map natural (written_lengths self.lengths))) (g.E.HoldsColumns.columns self.elements))
+    front_whole g.S.Shaped.data.lists g.S.Shaped.data.shape (two (one (lengths None) (map natural (written_lengths self.lengths))) (g.E.Buffer.columns self.elements))
     (ap (two (one (lengths None) [])) (g.met.E.Encoder.of_shape self.elements) ∙ sym (g.met.S.Sequence.items_columns []))
     (map of c.args.items.now) (map of (drop c.loop-item.item-index c.args.items.now))
-    (two (one (lengths None) (map natural (written_lengths c.loop-item.self.lengths))) (g.E.HoldsColumns.columns c.loop-item.self.elements))
+    (two (one (lengths None) (map natural (written_lengths c.loop-item.self.lengths))) (g.E.Buffer.columns c.loop-item.self.elements))
     c.loop-item.invariant.front (at_drop_all (map of) c.args.items.now c.loop-item.item-index (omega (arith, c.loop-item-test.false)))
 
 pub returns-clause-room : goal.returns-clause-room
