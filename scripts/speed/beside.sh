@@ -13,7 +13,8 @@
 # The library is compiled without a proof, in two minutes, as optimized as a proved one. With --proved it is proved
 # (without the data sets) and built as a static library, which takes over an hour where `rt ci` has not yet proved it on
 # this machine. CPU=x86-64-v3 compiles all for that processor (x86-64-v2 otherwise), OUT=FOLDER keeps what was built,
-# ONLY=WORD takes the workloads that have the word in their name, and SIZES=1000 takes lists of these lengths.
+# ONLY=WORD takes the workloads that have the word in their name, SIZES=1000 takes lists of these lengths, and RUNS=5
+# measures five times and prints the median of each time.
 # REGISTRY=FOLDER has the sources of bincode and serde, if cargo is not to fetch them: Debian's librust-bincode-dev,
 # librust-serde-dev, librust-serde-derive-dev, librust-arrayvec-dev and librust-uuid-dev put them into
 # /usr/share/cargo/registry, which is where texts of the crate take them from. The status is 2 where something is
@@ -44,11 +45,22 @@ echo "beside: ready" >&2
 while [ -n "${READY:-}" ] && [ ! -e "$READY" ]; do sleep 0.2; done
 model=$(sed -n 's/^model name[^:]*: //p' /proc/cpuinfo | head -n 1)
 how=$([ -n "$is_proved" ] && echo "proved" || echo "compiled without a proof")
-echo "# $(date +%F), $model, $(nproc) cores, $cpu, ours $how, $(rt version)"
+median=$([ "${RUNS:-1}" = 1 ] || echo "median of $RUNS runs, ")
+echo "# $(date +%F), $model, $(nproc) cores, $cpu, ${median}ours $how, $(rt version)"
 printf 'format\tworkload\telements\tlibrary\tbytes\tencode\tbuffer\tdecode\n'
 # Memory that is freed is kept, as in a program that goes on: neither library pays for the system's.
 export MALLOC_MMAP_THRESHOLD_=33554432 MALLOC_TRIM_THRESHOLD_=8589934592 MALLOC_TOP_PAD_=268435456
-"$work/driver/target/release/driver" "${ONLY:-}" "${SIZES:-10,1000,1000000}" || fail "the driver stopped"
+for run in $(seq "${RUNS:-1}"); do
+  "$work/driver/target/release/driver" "${ONLY:-}" "${SIZES:-10,1000,1000000}" >"$work/run$run.tsv" || fail "the driver stopped"
+done
+python3 - "$work"/run*.tsv <<'PYTHON'
+# Of each row, the median of each time over the runs.
+import statistics, sys
+runs = [[line.rstrip("\n").split("\t") for line in open(path)] for path in sys.argv[1:]]
+for rows in zip(*runs):
+    times = [[row[column] for row in rows] for column in (5, 6, 7)]
+    print(*rows[0][:5], *(it[0] if it[0] == "-" else f"{statistics.median(map(float, it)):.3f}" for it in times), sep="\t")
+PYTHON
 python3 - <<'PYTHON'
 import random, timeit, zlib
 megabyte = random.Random(7).randbytes(1_000_000)

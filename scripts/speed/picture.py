@@ -1,16 +1,17 @@
 #!/usr/bin/env python3
-"""Makes docs/speed.svg and the table of docs/SPEED.md from docs/speed.tsv, which scripts/speed/beside.sh prints.
+"""Makes docs/speed.svg and the tables of docs/SPEED.md from docs/speed.tsv, which scripts/speed/beside.sh prints.
 
     scripts/speed/picture.py            writes both, and prints the table, the README's sentence and the picture's words
     scripts/speed/picture.py --check    says what is not as it would write it; the exit status is then 1
 
-The picture has both formats at 1,000 elements. A cell of the table has one number for each library, in the order of the
-table's head.
+The picture has both formats at 1,000 elements, and the data sets, by their own elements. A cell of a table has one
+number for each library, in the order of the table's head.
 """
 
 import html
 import math
 import os
+import re
 import sys
 import textwrap
 
@@ -18,9 +19,11 @@ DATA, PICTURE, PAGE, README = "docs/speed.tsv", "docs/speed.svg", "docs/SPEED.md
 BEGIN, END = "<!-- scripts/speed/picture.py: {} -->\n", "<!-- end -->\n"
 OURS, CRATE, VARINT, FIXED = LIBRARIES = "ours", "bitcode", "bincode varint", "bincode fixed"
 SHOWN, SIZES = 1000, (10, 1000, 1_000_000)
+# What the picture shows, with its headings.
+SHOWN_FORMATS = {"first": None, "second": "Second format:", "set": "Data sets:"}
 
-# The picture: where its four axes begin, how long they are, and where its rows are. The second format has a heading, so
-# its rows are one further down.
+# The picture: where its four axes begin, how long they are, and where its rows are. The second format and the data sets
+# have a heading each, so their rows are further down.
 AXES, AXIS, FIRST_ROW, ROW, WIDTH = (345, 575, 805, 1035), 185, 122, 20, 1240
 STYLE = """text { font: 12px system-ui, sans-serif; fill: #1f2328 } .small { font-size: 11px; fill: #59636e }
 .head { font-weight: 600 } .line { stroke: #d1d9e0 } .even { stroke: #59636e; stroke-width: 1.5 }
@@ -34,17 +37,23 @@ STYLE = """text { font: 12px system-ui, sans-serif; fill: #1f2328 } .small { fon
 
 class Run:
     """The lines of a run: by workload, number of elements and library the bytes and the nanoseconds, each for one
-    element."""
+    element. A data set stands beside the lists of 1,000 elements, with its bytes and times for one of its own elements;
+    `sets` has those of the whole."""
 
     def __init__(self, path):
         with open(path) as file:
             head, _names, *rows = file.read().rstrip("\n").split("\n")
-        self.head, self.found, self.formats = head.lstrip("# "), {}, {}
+        self.head, self.found, self.formats, self.sets = head.lstrip("# "), {}, {}, {}
         for row in rows:
             form, name, elements, library, size, *times = row.split("\t")
             self.formats.setdefault(form, {})[name] = None
             measured = [None if time == "-" else float(time) for time in times]
-            self.found[name, int(elements), library] = int(size) / int(elements), *measured
+            if form == "set":
+                self.sets[name, library] = int(size), *measured
+                count = int(re.search(r": ([\d,]+) ", name)[1].replace(",", ""))
+                self.found[name, SHOWN, library] = int(size) / count, *(time / count for time in measured)
+            else:
+                self.found[name, int(elements), library] = int(size) / int(elements), *measured
 
     def each(self, name, elements, column):
         """What the libraries have in a column: 0 bytes, 1 encoding, 2 a buffer, 3 decoding."""
@@ -107,11 +116,16 @@ class Axis:
 
 
 def placed(run):
-    """The workloads of the picture, each with its row, and where the heading of the second format is."""
-    first, second = ([*run.formats[form]] for form in ("first", "second"))
-    rows = {name: FIRST_ROW + ROW * i for i, name in enumerate(first)}
-    heading = FIRST_ROW + ROW * len(first)
-    return rows | {name: heading + ROW * (i + 1) for i, name in enumerate(second)}, heading
+    """The workloads of the picture, each with its row, and the headings, each with its own."""
+    rows, headings, y = {}, {}, FIRST_ROW
+    for form, heading in SHOWN_FORMATS.items():
+        if heading:
+            headings[heading] = y
+            y += ROW
+        for name in run.formats[form]:
+            rows[name] = y
+            y += ROW
+    return rows, headings
 
 
 def ratio(run, name, column):
@@ -122,17 +136,18 @@ def ratio(run, name, column):
 
 def told(run):
     """What the picture shows, in words: its title, and what stands in its place where it is not seen."""
-    names = [*run.formats["first"], *run.formats["second"]]
+    names = [name for form in SHOWN_FORMATS for name in run.formats[form]]
     fewer = [name for name in names if run.each(name, SHOWN, 0)[0] <= run.each(name, SHOWN, 0)[2]]
     faster = [[name for name in names if ratio(run, name, column) <= 1] for column in (1, 3)]
     return (
-        f"{len(names)} workloads of 1,000 elements: no more bytes than bincode with varints in {len(fewer)}, encoded at "
-        f"least as fast as by the Rust crate in {len(faster[0])}, decoded at least as fast in {len(faster[1])}"
+        f"{len(names) - len(run.formats['set'])} workloads of 1,000 elements and {len(run.formats['set'])} data sets: no "
+        f"more bytes than bincode with varints in {len(fewer)}, encoded at least as fast as by the Rust crate in "
+        f"{len(faster[0])}, decoded at least as fast in {len(faster[1])}"
     )
 
 
 def drawn(run):
-    rows, heading = placed(run)
+    rows, headings = placed(run)
     bottom = max(rows.values()) + 12
     parts = [
         f'<svg xmlns="http://www.w3.org/2000/svg" viewBox="0 0 {WIDTH} {bottom + 4}"',
@@ -145,7 +160,8 @@ def drawn(run):
         parts += [mark(library, 24 + 190 * i, 20), text(36 + 190 * i, 24, words)]
     parts += [disc("ours", AXES[3] + 4, 20), text(AXES[3] + 14, 24, "encode")]
     parts += [ring("decode", AXES[3] + 84, 20), text(AXES[3] + 96, 24, "decode")]
-    parts.append(text(12, 54, "Lists of 1,000 elements. All axes are logarithmic: further left is better.", "head"))
+    shown = "Lists of 1,000 elements, and data sets. All axes are logarithmic: further left is better."
+    parts.append(text(12, 54, shown, "head"))
     heads = ("bytes per element", "encode, ns per element", "decode, ns per element")
     for left, column, head in zip(AXES, (0, 1, 3), heads):
         axis = Axis(left, 10, [value for name in rows for value in run.each(name, SHOWN, column)])
@@ -158,7 +174,7 @@ def drawn(run):
     for name, y in rows.items():
         parts += [ring("decode", axis.at(ratio(run, name, 3)), y), disc("ours", axis.at(ratio(run, name, 1)), y)]
     parts += [text(12, y + 4, name.replace("`", "")) for name, y in rows.items()]
-    parts.append(text(12, heading + 4, "Second format:", "head"))
+    parts += [text(12, y + 4, heading, "head") for heading, y in headings.items()]
     return "\n".join([*parts, "</svg>", ""])
 
 
@@ -179,9 +195,22 @@ def table(run):
     return "\n".join(lines) + "\n"
 
 
-def span(run, form):
+def sets_table(run):
+    heads = (
+        "Set", "Bytes: bitcode/varint/fixed", "Encode, ms: ours/crate/varint/fixed", "Decode, ms", "Our time / the crate's",
+    )
+    lines = ["| " + " | ".join(heads) + " |", "|---" * len(heads) + "|"]
+    for name in run.formats["set"]:
+        each = [run.sets[name, library] for library in LIBRARIES]
+        sizes = "/".join(f"{it[0]:,}" for it in each[1:])
+        times = ["/".join(short(it[column] / 1e6) for it in each) for column in (1, 3)]
+        lines.append(f"| {name} | {sizes} | {times[0]} | {times[1]} | {run.ratios(name, SHOWN)} |")
+    return "\n".join(lines) + "\n"
+
+
+def span(run, form, sizes=SIZES):
     """The least and the greatest of our times over the Rust crate's, over all workloads of a format."""
-    cells = [run.ratios(name, elements).split("/") for name in run.formats[form] for elements in SIZES]
+    cells = [run.ratios(name, elements).split("/") for name in run.formats[form] for elements in sizes]
     ratios = [float(cell) for row in cells for cell in row if cell != "-"]
     return f"{min(ratios):.2f} to {max(ratios):.1f} times"
 
@@ -191,7 +220,8 @@ def sentence(run):
     name = next(name for name in run.formats["first"] if name.startswith("records"))
     size = [short(it) for it in run.each(name, SHOWN, 0)]
     return (f"A record of five fields takes {size[0]} bytes in a list of 1,000 (bincode: {size[2]} or {size[3]}). "
-            f"Calls take {span(run, 'first')} as long as in the Rust crate, or {span(run, 'second')} in the second format")
+            f"Calls take {span(run, 'first')} as long as in the Rust crate, or {span(run, 'second')} in the second format, "
+            f"and {span(run, 'set', [SHOWN])} on four common data sets")
 
 
 def with_block(page, name, block):
@@ -209,7 +239,8 @@ def main():
     os.chdir(os.path.join(os.path.dirname(os.path.abspath(__file__)), "../.."))
     run = Run(DATA)
     page = with_block(read(PAGE), "run", textwrap.fill(f"Measured: {run.head}.", 120, break_on_hyphens=False) + "\n")
-    made = {PICTURE: drawn(run), PAGE: with_block(page, "table", table(run))}
+    page = with_block(with_block(page, "table", table(run)), "sets", sets_table(run))
+    made = {PICTURE: drawn(run), PAGE: page}
     if sys.argv[1:] == ["--check"]:
         stale = [path for path in made if not os.path.exists(path) or read(path) != made[path]]
         faults = [f"{path} is out of date: run scripts/speed/picture.py" for path in stale]

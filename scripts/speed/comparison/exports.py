@@ -188,6 +188,7 @@ fn map(alloc: Global) -> Result<ShapeNode, Error> {
 """
 # What the data sets need besides.
 SETS = """use crate::borrowed_logs::BorrowedLogs;
+use crate::borrowed_players::BorrowedPlayers;
 use crate::logs::Logs;
 use crate::mesh::Mesh;
 use crate::players::Players;
@@ -195,8 +196,13 @@ use crate::updates::Updates;
 """
 MODULES = """pub mod abilities;
 pub mod address;
+pub mod borrowed_entity;
+pub mod borrowed_item;
 pub mod borrowed_log;
 pub mod borrowed_logs;
+pub mod borrowed_player;
+pub mod borrowed_players;
+pub mod borrowed_recipe_book;
 pub mod contact;
 pub mod entity;
 pub mod entity_type;

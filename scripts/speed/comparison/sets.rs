@@ -132,6 +132,17 @@ type Player = (
     (u32, u32, f32, i32, i32, Vec<Item>, Vec<Item>, Abilities, Option<Place>, Option<([u32; 4], Entity)>, Option<Entity>,
         Option<Entity>, bool, Book),
 );
+type BorrowedItem = (i8, u8, &'static str);
+type BorrowedEntity = (
+    (&'static str, Place, Place, (f32, f32), f32, u16, u16, bool),
+    (bool, bool, i32, [u32; 4], Option<&'static str>, bool, bool, bool),
+);
+type BorrowedBook = (Vec<&'static str>, Vec<&'static str>, bool, bool, bool, bool, bool, bool, bool, bool);
+type BorrowedPlayer = (
+    (GameType, GameType, u64, &'static str, u32, BorrowedItem, Option<&'static str>, i64, i64, i64, Option<bool>, u16, f32, f32),
+    (u32, u32, f32, i32, i32, Vec<BorrowedItem>, Vec<BorrowedItem>, Abilities, Option<Place>, Option<([u32; 4], BorrowedEntity)>, Option<BorrowedEntity>,
+        Option<BorrowedEntity>, bool, BorrowedBook),
+);
 
 fn item(r: &mut Random) -> Item {
     let names = ["dirt", "stone", "pickaxe", "sand", "gravel", "shovel", "chestplate", "steak"];
