@@ -59,7 +59,7 @@ impl Buffer for ${simple}Encoder {
 
     ghost capacity = { λ e. ⟦<$held as Buffer>⟧.capacity e.fields };
 
-    ghost surely_overflows = { λ e n. SurelyOverflows $shape (⟦<$held as Buffer>⟧.columns e.fields) n };
+    ghost surely_overflows = { λ e n. $surely };
 
     ghost overflows = { λ e n. ⟦<$held as Buffer>⟧.overflows e.fields n };
 
@@ -68,7 +68,7 @@ impl Buffer for ${simple}Encoder {
     }
 
     fn reserve(&mut self, n: usize) -> Result<(), Error> {
-        $reserve(&mut self.fields, n)
+        $reserve
     }
 
     fn collect_into(&mut self, out: &mut Vec<u8>) -> Result<(), Error> {
@@ -112,6 +112,12 @@ PART = """impl$shaped PartEncoder<$whole, $name> for ${simple}Encoder {
 
     ghost lists = { $lists };
 
+    ghost columns = { ⟦<${simple}Encoder as Buffer>⟧.columns };
+
+    ghost room = { ⟦<${simple}Encoder as Buffer>⟧.room };
+
+    ghost surely_overflows = { ⟦<${simple}Encoder as Buffer>⟧.surely_overflows };
+
     ghost writes_free = { $free };
 
     fn encode_part(&mut self, whole: &$whole) -> Result<(), Error> {
@@ -128,7 +134,7 @@ PART = """impl$shaped PartEncoder<$whole, $name> for ${simple}Encoder {
 
     ghost of_shape = { λ e. refl };
 
-    ghost surely = { λ e n h. h };
+    ghost surely = { λ e n h. ⟦<$held as PartEncoder<$whole, $numbers>>⟧.surely e.fields n h };
 }
 
 """
@@ -383,12 +389,13 @@ def encoder_text(item, free, name, life, shaped, fields):
     """The encoder of the item, which has the encoder of its fields."""
     still = still_of(item, life)
     held = "Held" + (still if fields.endswith(">") else "")
+    shape = f"⟦<{item.name}{still} as Shaped>⟧.data.shape"
     row = {
         "simple": item.name,
         "name": name,
         "held": held,
-        "shape": f"⟦<{item.name}{still} as Shaped>⟧.data.shape",
-        "reserve": f"reserve_as::<{item.name}{still}, _>",
+        "surely": f"SurelyOverflows {shape} (⟦<{held} as Buffer>⟧.columns e.fields) n",
+        "reserve": f"reserve_as::<{item.name}{still}, _>(&mut self.fields, n)",
         "shaped": shaped,
         "free": free,
     }
@@ -411,7 +418,6 @@ def part_encoder_text(part, number, struct, life, free, lists, types, numbers):
     pairs, held, names = (f"{alias}{number}" for alias in ("Pairs", "Held", "Numbers"))
     of = life if part.lifetime else ""
     still = still_of(part, of)
-    whole_still = struct.name + still_of(struct, life)
     row = {
         "simple": part.name,
         "name": name,
@@ -419,7 +425,8 @@ def part_encoder_text(part, number, struct, life, free, lists, types, numbers):
         "held": held + still,
         "numbers": names,
         "shape": f"⟦<{pairs}{still} as Shaped>⟧.data.shape",
-        "reserve": f"reserve_part::<{whole_still}, {names}, _>",
+        "surely": f"⟦<{held + still} as Buffer>⟧.surely_overflows e.fields n",
+        "reserve": "self.fields.reserve(n)",
         "shaped": life,
         "free": free,
         "lists": lists,

@@ -68,6 +68,8 @@ impl$encoded InFields<$by> for $name {
 
     type Inside = $inside;
 
+    ghost same_state = { state_alike };
+
     ghost same_columns = { refl };
 
     ghost of_fields = { λ d h. h };
@@ -355,7 +357,7 @@ def tuple_text(item, imports, own, lent, **row):
     is_closed = closed.is_closed(item, own)
     coders = {closed.NEEDED} if is_closed else {"bitcode::coder::{ColumnFree, Decoder, HoldsData, View}"} if apart else ()
     imports = {*imports, "std::alloc::Global", *coders}
-    by_hand = [*((["SurelyOverflows"] if item.lifetime else ["ReadsValue", "SurelyOverflows"]) if is_closed else []), "data_as", "field_alike", *(["pair_alike"] if len(fields) > 1 else []), "refl"]
+    by_hand = [*((["SurelyOverflows"] if item.lifetime else ["ReadsValue", "SurelyOverflows"]) if is_closed else []), "data_as", "field_alike", *(["pair_alike"] if len(fields) > 1 else []), "refl", "state_alike"]
     operators, more = closed_head(item, own)
     used |= more
     named = ""

@@ -118,7 +118,7 @@ def wide_text(struct, own, told):
     used = {"ConvertFrom", "DecoderOfFields", "Error", "HasDecoder", "HasEncoder", "HasField", "InFields", "Nth", "Shaped", "StructEncoder"}
     used |= set() if struct.lifetime else {"DecodeOwned"}
     used |= {"ConvertFromDecoder"} if any("ConvertFromDecoder<" in text for text in texts) else set()
-    used |= {"Part", "PartEncoder", "TupleEncoder", "reserve_as", "reserve_part"}
+    used |= {"Part", "PartEncoder", "TupleEncoder", "reserve_as"}
     used |= {"TupleDecoder"} if any("TupleDecoder<" in text for text in texts) else set()
     imports = {*checker.imports, "std::alloc::Global", NEEDED}
     uses = sorted([f"use bitcode::{{{', '.join(sorted(used))}}};", *(f"use {path};" for path in imports)])
@@ -139,6 +139,6 @@ def wide_text(struct, own, told):
     head = Template(HEAD).substitute(
         about=f"`{struct.name}` corresponds to pairs of parts of its fields. What is below its declaration was written by `scripts/new_type`.",
         operators=closed_head(struct, own)[0],
-        by_hand=f"ghost use Rattle.bitcode.specs.ByHand.{{{', '.join([*([] if struct.lifetime else ['ReadsValue']), 'SurelyOverflows', 'data_as', 'field_alike', 'lists_both', 'pair_alike', 'refl'])}}};\n", uses="\n".join(uses) + "\n",
+        by_hand=f"ghost use Rattle.bitcode.specs.ByHand.{{{', '.join([*([] if struct.lifetime else ['ReadsValue']), 'SurelyOverflows', 'data_as', 'field_alike', 'lists_both', 'pair_alike', 'refl', 'state_alike'])}}};\n", uses="\n".join(uses) + "\n",
     )
     return head + declaration(struct) + "\n" + "\n".join(texts) + body, checker.crates

@@ -1,7 +1,7 @@
 //! `Grade` corresponds to the tuple of its fields. What is below its declaration was written by `scripts/new_type`.
 ghost use Rattle.std.specs.Prelude.{MatchOption, false, true, ◌&&◌, ◌≡◌};
 ghost use Rattle.bitcode.specs.ByHand.{admits, admits-takes, admitted_data, field_alike, nat_le, nat_lt, natural_back};
-ghost use Rattle.bitcode.specs.ByHand.{pair_alike, pair_back, refl};
+ghost use Rattle.bitcode.specs.ByHand.{pair_alike, pair_back, refl, state_alike};
 
 use bitcode::own::{DecoderOfChecked, FromChecked, HasField, InFields, Nth, StructEncoder};
 use bitcode::{DecodeOwned, HasDecoder, HasEncoder, Shaped};
@@ -94,6 +94,8 @@ impl InFields<Fields> for Grade {
     type Numbers = (Nth<0>, Nth<1>);
 
     type Inside = <Grade as HasDecoder<'static>>::Decoder;
+
+    ghost same_state = { state_alike };
 
     ghost same_columns = { refl };
 

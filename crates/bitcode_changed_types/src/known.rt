@@ -1,6 +1,6 @@
 //! `Known` corresponds to the tuple of its fields. What is below its declaration was written by `scripts/new_type`.
 ghost use Rattle.std.specs.Prelude.{[], false, ◌≡◌};
-ghost use Rattle.bitcode.specs.ByHand.{empty_vec, field_alike, pair_alike, refl, skipped_data};
+ghost use Rattle.bitcode.specs.ByHand.{empty_vec, field_alike, pair_alike, refl, skipped_data, state_alike};
 
 use bitcode::own::{DecoderOfFields, HasField, InFields, Nth, StructEncoder};
 use bitcode::{ConvertFrom, DecodeOwned, Error, HasDecoder, HasEncoder, Shaped};
@@ -67,6 +67,8 @@ impl InFields<Fields> for Known {
     type Numbers = (Nth<0>, Nth<1>);
 
     type Inside = <Known as HasDecoder<'static>>::Decoder;
+
+    ghost same_state = { state_alike };
 
     ghost same_columns = { refl };
 

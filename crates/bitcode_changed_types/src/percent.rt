@@ -1,6 +1,7 @@
 //! `Percent` corresponds to the tuple of its fields. What is below its declaration was written by `scripts/new_type`.
 ghost use Rattle.std.specs.Prelude.{MatchOption, false, true, ◌≡◌};
 ghost use Rattle.bitcode.specs.ByHand.{admits, admits-takes, admitted_data, field_alike, nat_le, natural_back, refl};
+ghost use Rattle.bitcode.specs.ByHand.{state_alike};
 
 use bitcode::own::{DecoderOfChecked, FromChecked, HasField, InFields, Nth, StructEncoder};
 use bitcode::{DecodeOwned, HasDecoder, HasEncoder, Key, Shaped};
@@ -76,6 +77,8 @@ impl InFields<Fields> for Percent {
     type Numbers = Nth<0>;
 
     type Inside = <Percent as HasDecoder<'static>>::Decoder;
+
+    ghost same_state = { state_alike };
 
     ghost same_columns = { refl };
 

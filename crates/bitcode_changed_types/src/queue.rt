@@ -1,6 +1,6 @@
 //! `Queue` corresponds to the tuple of its fields. What is below its declaration was written by `scripts/new_type`.
 ghost use Rattle.std.specs.Prelude.{◌≡◌};
-ghost use Rattle.bitcode.specs.ByHand.{data_as, field_alike, pair_alike, refl};
+ghost use Rattle.bitcode.specs.ByHand.{data_as, field_alike, pair_alike, refl, state_alike};
 
 use crate::hurry::Hurry;
 use crate::state::State;
@@ -69,6 +69,8 @@ impl InFields<Fields> for Queue {
     type Numbers = (Nth<0>, Nth<1>);
 
     type Inside = <Queue as HasDecoder<'static>>::Decoder;
+
+    ghost same_state = { state_alike };
 
     ghost same_columns = { refl };
 

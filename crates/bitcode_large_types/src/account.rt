@@ -2,13 +2,13 @@
 //! `scripts/new_type`.
 ghost use Rattle.std.specs.Prelude.{◌&&◌};
 ghost use Rattle.bitcode.specs.ByHand.{SurelyOverflows, data_as, field_alike, lists_both, pair_alike, refl};
+ghost use Rattle.bitcode.specs.ByHand.{state_alike};
 
 use crate::home::Home;
 use crate::trophy::Trophy;
 use bitcode::coder::{Buffer, ColumnFree, Decoder, Encoder, HoldsData, View};
 use bitcode::own::{
     DecoderOfFields, HasField, InFields, Nth, Part, PartEncoder, StructEncoder, reserve_as,
-    reserve_part,
 };
 use bitcode::{ConvertFrom, Error, HasDecoder, HasEncoder, Shaped, TupleEncoder};
 use std::alloc::Global;
@@ -636,8 +636,7 @@ impl Buffer for AccountPart0Encoder {
 
     ghost capacity = { λ e. ⟦<Held0<'static> as Buffer>⟧.capacity e.fields };
 
-    ghost surely_overflows = { λ e n. SurelyOverflows ⟦<Pairs0<'static> as Shaped>⟧.data.shape
-        (⟦<Held0<'static> as Buffer>⟧.columns e.fields) n };
+    ghost surely_overflows = { λ e n. ⟦<Held0<'static> as Buffer>⟧.surely_overflows e.fields n };
 
     ghost overflows = { λ e n. ⟦<Held0<'static> as Buffer>⟧.overflows e.fields n };
 
@@ -648,7 +647,7 @@ impl Buffer for AccountPart0Encoder {
     }
 
     fn reserve(&mut self, n: usize) -> Result<(), Error> {
-        reserve_part::<Account<'static>, Numbers0, _>(&mut self.fields, n)
+        self.fields.reserve(n)
     }
 
     fn collect_into(&mut self, out: &mut Vec<u8>) -> Result<(), Error> {
@@ -668,6 +667,12 @@ impl<'a> PartEncoder<Account<'a>, AccountPart0<'a>> for AccountPart0Encoder {
         (lists_both (λ t d. ⟦<&'a str as Shaped>⟧.data.lists t.country d)
         (lists_both (λ t d. ⟦<u8 as Shaped>⟧.data.lists t.level d)
         (λ t d. ⟦<bool as Shaped>⟧.data.lists t.active d))) };
+
+    ghost columns = { ⟦<AccountPart0Encoder as Buffer>⟧.columns };
+
+    ghost room = { ⟦<AccountPart0Encoder as Buffer>⟧.room };
+
+    ghost surely_overflows = { ⟦<AccountPart0Encoder as Buffer>⟧.surely_overflows };
 
     ghost writes_free = { ((⟦<<u64 as HasEncoder>::Encoder as Encoder<u64>>⟧.writes_free &&
         ⟦<<String as HasEncoder>::Encoder as Encoder<String>>⟧.writes_free) &&
@@ -693,7 +698,8 @@ impl<'a> PartEncoder<Account<'a>, AccountPart0<'a>> for AccountPart0Encoder {
 
     ghost of_shape = { λ e. refl };
 
-    ghost surely = { λ e n h. h };
+    ghost surely = { λ e n h. ⟦<Held0<'static> as PartEncoder<Account<'a>, Numbers0>>⟧.surely
+        e.fields n h };
 }
 
 type Pairs1 = ((i64, (Option<i16>, Vec<u8>)), (char, (Vec<String>, Home)));
@@ -715,8 +721,7 @@ impl Buffer for AccountPart1Encoder {
 
     ghost capacity = { λ e. ⟦<Held1 as Buffer>⟧.capacity e.fields };
 
-    ghost surely_overflows = { λ e n. SurelyOverflows ⟦<Pairs1 as Shaped>⟧.data.shape
-        (⟦<Held1 as Buffer>⟧.columns e.fields) n };
+    ghost surely_overflows = { λ e n. ⟦<Held1 as Buffer>⟧.surely_overflows e.fields n };
 
     ghost overflows = { λ e n. ⟦<Held1 as Buffer>⟧.overflows e.fields n };
 
@@ -727,7 +732,7 @@ impl Buffer for AccountPart1Encoder {
     }
 
     fn reserve(&mut self, n: usize) -> Result<(), Error> {
-        reserve_part::<Account<'static>, Numbers1, _>(&mut self.fields, n)
+        self.fields.reserve(n)
     }
 
     fn collect_into(&mut self, out: &mut Vec<u8>) -> Result<(), Error> {
@@ -748,6 +753,12 @@ impl<'a> PartEncoder<Account<'a>, AccountPart1> for AccountPart1Encoder {
         (lists_both (λ t d. ⟦<char as Shaped>⟧.data.lists t.initial d)
         (lists_both (λ t d. ⟦<Vec<String> as Shaped>⟧.data.lists t.tags d)
         (λ t d. ⟦<Home as Shaped>⟧.data.lists t.home d))) };
+
+    ghost columns = { ⟦<AccountPart1Encoder as Buffer>⟧.columns };
+
+    ghost room = { ⟦<AccountPart1Encoder as Buffer>⟧.room };
+
+    ghost surely_overflows = { ⟦<AccountPart1Encoder as Buffer>⟧.surely_overflows };
 
     ghost writes_free = { ((⟦<<i64 as HasEncoder>::Encoder as Encoder<i64>>⟧.writes_free &&
         (⟦<<Option<i16> as HasEncoder>::Encoder as Encoder<Option<i16>>>⟧.writes_free &&
@@ -774,7 +785,7 @@ impl<'a> PartEncoder<Account<'a>, AccountPart1> for AccountPart1Encoder {
 
     ghost of_shape = { λ e. refl };
 
-    ghost surely = { λ e n h. h };
+    ghost surely = { λ e n h. ⟦<Held1 as PartEncoder<Account<'a>, Numbers1>>⟧.surely e.fields n h };
 }
 
 type Pairs2 = (((i32, i32), (Option<Trophy>, u32)), (u16, (u128, u8)));
@@ -796,8 +807,7 @@ impl Buffer for AccountPart2Encoder {
 
     ghost capacity = { λ e. ⟦<Held2 as Buffer>⟧.capacity e.fields };
 
-    ghost surely_overflows = { λ e n. SurelyOverflows ⟦<Pairs2 as Shaped>⟧.data.shape
-        (⟦<Held2 as Buffer>⟧.columns e.fields) n };
+    ghost surely_overflows = { λ e n. ⟦<Held2 as Buffer>⟧.surely_overflows e.fields n };
 
     ghost overflows = { λ e n. ⟦<Held2 as Buffer>⟧.overflows e.fields n };
 
@@ -808,7 +818,7 @@ impl Buffer for AccountPart2Encoder {
     }
 
     fn reserve(&mut self, n: usize) -> Result<(), Error> {
-        reserve_part::<Account<'static>, Numbers2, _>(&mut self.fields, n)
+        self.fields.reserve(n)
     }
 
     fn collect_into(&mut self, out: &mut Vec<u8>) -> Result<(), Error> {
@@ -829,6 +839,12 @@ impl<'a> PartEncoder<Account<'a>, AccountPart2> for AccountPart2Encoder {
         (lists_both (λ t d. ⟦<u16 as Shaped>⟧.data.lists t.friends d)
         (lists_both (λ t d. ⟦<u128 as Shaped>⟧.data.lists t.checksum d)
         (λ t d. ⟦<u8 as Shaped>⟧.data.lists t.rank d))) };
+
+    ghost columns = { ⟦<AccountPart2Encoder as Buffer>⟧.columns };
+
+    ghost room = { ⟦<AccountPart2Encoder as Buffer>⟧.room };
+
+    ghost surely_overflows = { ⟦<AccountPart2Encoder as Buffer>⟧.surely_overflows };
 
     ghost writes_free = { ((⟦<<(i32, i32) as HasEncoder>::Encoder as Encoder<(i32, i32)>>⟧.writes_free
         && (⟦<<Option<Trophy> as HasEncoder>::Encoder as Encoder<Option<Trophy>>>⟧.writes_free &&
@@ -855,7 +871,7 @@ impl<'a> PartEncoder<Account<'a>, AccountPart2> for AccountPart2Encoder {
 
     ghost of_shape = { λ e. refl };
 
-    ghost surely = { λ e n h. h };
+    ghost surely = { λ e n h. ⟦<Held2 as PartEncoder<Account<'a>, Numbers2>>⟧.surely e.fields n h };
 }
 
 type Fields = TupleEncoder<
@@ -867,6 +883,8 @@ impl<'a> InFields<Fields> for Account<'a> {
     type Numbers = (AccountPart0<'a>, (AccountPart1, AccountPart2));
 
     type Inside = AccountInside<'a>;
+
+    ghost same_state = { state_alike };
 
     ghost same_columns = { refl };
 

@@ -1,6 +1,6 @@
 //! `Home` corresponds to the tuple of its fields. What is below its declaration was written by `scripts/new_type`.
 ghost use Rattle.std.specs.Prelude.{◌∷◌};
-ghost use Rattle.bitcode.specs.ByHand.{[], ands_in_order, data_as, field_alike, key_as, pair_alike, refl};
+ghost use Rattle.bitcode.specs.ByHand.{[], ands_in_order, data_as, field_alike, key_as, pair_alike, refl, state_alike};
 ghost use Rattle.bitcode.specs.ByHand.{thens_in_order};
 
 use bitcode::own::{DecoderOfFields, HasField, InFields, Nth, StructEncoder};
@@ -79,6 +79,8 @@ impl InFields<Fields> for Home {
     type Numbers = (Nth<0>, (Nth<1>, Nth<2>));
 
     type Inside = <Home as HasDecoder<'static>>::Decoder;
+
+    ghost same_state = { state_alike };
 
     ghost same_columns = { refl };
 

@@ -1,6 +1,7 @@
 //! `Trophy` corresponds to the tuple of its fields. What is below its declaration was written by `scripts/new_type`.
 ghost use Rattle.std.specs.Prelude.{◌&&◌, IfSome};
 ghost use Rattle.bitcode.specs.ByHand.{ReadsValue, SurelyOverflows, data_as, field_alike, pair_alike, refl};
+ghost use Rattle.bitcode.specs.ByHand.{state_alike};
 
 use bitcode::coder::{Buffer, ColumnFree, Decoder, Encoder, HoldsData, View};
 use bitcode::own::{DecoderOfFields, HasField, InFields, Nth, Part, StructEncoder, reserve_as};
@@ -62,6 +63,8 @@ impl InFields<Fields> for Trophy {
     type Numbers = (Nth<0>, Nth<1>);
 
     type Inside = TrophyInside;
+
+    ghost same_state = { state_alike };
 
     ghost same_columns = { refl };
 

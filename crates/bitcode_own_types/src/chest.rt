@@ -1,5 +1,5 @@
 //! `Chest` corresponds to the tuple of its fields. What is below its declaration was written by `scripts/new_type`.
-ghost use Rattle.bitcode.specs.ByHand.{data_as, field_alike, pair_alike, refl};
+ghost use Rattle.bitcode.specs.ByHand.{data_as, field_alike, pair_alike, refl, state_alike};
 
 use crate::item::Item;
 use bitcode::own::{DecoderOfFields, HasField, InFields, Nth, StructEncoder};
@@ -73,6 +73,8 @@ impl InFields<Fields> for Chest {
     type Numbers = (Nth<0>, (Nth<1>, Nth<2>));
 
     type Inside = <Chest as HasDecoder<'static>>::Decoder;
+
+    ghost same_state = { state_alike };
 
     ghost same_columns = { refl };
 

@@ -1,5 +1,5 @@
 //! `Dated` corresponds to the tuple of its fields. What is below its declaration was written by `scripts/new_type`.
-ghost use Rattle.bitcode.specs.ByHand.{data_as, field_alike, pair_alike, refl};
+ghost use Rattle.bitcode.specs.ByHand.{data_as, field_alike, pair_alike, refl, state_alike};
 
 use bitcode::own::{DecoderOfFields, HasField, InFields, Nth, StructEncoder};
 use bitcode::{ConvertFrom, DecodeOwned, Encode, Error, HasDecoder, HasEncoder, Shaped};
@@ -69,6 +69,8 @@ impl<T: Encode> InFields<Fields<T>> for Dated<T> {
     type Numbers = (Nth<0>, (Nth<1>, Nth<2>));
 
     type Inside = (u16, u16, T);
+
+    ghost same_state = { state_alike };
 
     ghost same_columns = { refl };
 

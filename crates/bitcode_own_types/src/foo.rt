@@ -1,5 +1,5 @@
 //! `Foo` corresponds to the tuple of its fields. What is below its declaration was written by `scripts/new_type`.
-ghost use Rattle.bitcode.specs.ByHand.{data_as, field_alike, pair_alike, refl};
+ghost use Rattle.bitcode.specs.ByHand.{data_as, field_alike, pair_alike, refl, state_alike};
 
 use bitcode::own::{DecoderOfFields, HasField, InFields, Nth, StructEncoder};
 use bitcode::{ConvertFrom, Error, HasDecoder, HasEncoder, Shaped};
@@ -56,6 +56,8 @@ impl<'a> InFields<Fields<'a>> for Foo<'a> {
     type Numbers = (Nth<0>, Nth<1>);
 
     type Inside = <Foo<'a> as HasDecoder<'a>>::Decoder;
+
+    ghost same_state = { state_alike };
 
     ghost same_columns = { refl };
 

@@ -1,5 +1,5 @@
 //! `Meters` corresponds to the tuple of its fields. What is below its declaration was written by `scripts/new_type`.
-ghost use Rattle.bitcode.specs.ByHand.{data_as, field_alike, refl};
+ghost use Rattle.bitcode.specs.ByHand.{data_as, field_alike, refl, state_alike};
 
 use bitcode::own::{DecoderOfFields, HasField, InFields, Nth, StructEncoder};
 use bitcode::{ConvertFrom, DecodeOwned, Error, HasDecoder, HasEncoder, Shaped};
@@ -42,6 +42,8 @@ impl InFields<Fields> for Meters {
     type Numbers = Nth<0>;
 
     type Inside = <Meters as HasDecoder<'static>>::Decoder;
+
+    ghost same_state = { state_alike };
 
     ghost same_columns = { refl };
 

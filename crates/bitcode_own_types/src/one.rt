@@ -1,6 +1,6 @@
 //! `One` corresponds to the tuple of its variant's fields. What is below its declaration was written by
 //! `scripts/new_type`.
-ghost use Rattle.bitcode.specs.ByHand.{data_as, field_alike, refl};
+ghost use Rattle.bitcode.specs.ByHand.{data_as, field_alike, refl, state_alike};
 
 use bitcode::own::{DecoderOfFields, HasField, InFields, Nth, StructEncoder};
 use bitcode::{ConvertFrom, DecodeOwned, Error, HasDecoder, HasEncoder, Shaped};
@@ -51,6 +51,8 @@ impl InFields<Fields> for One {
     type Numbers = Nth<0>;
 
     type Inside = <One as HasDecoder<'static>>::Decoder;
+
+    ghost same_state = { state_alike };
 
     ghost same_columns = { refl };
 

@@ -1,5 +1,5 @@
 //! `Pause` corresponds to the tuple of its fields. What is below its declaration was written by `scripts/new_type`.
-ghost use Rattle.bitcode.specs.ByHand.{data_as, field_alike, refl};
+ghost use Rattle.bitcode.specs.ByHand.{data_as, field_alike, refl, state_alike};
 
 use bitcode::own::{DecoderOfFields, InFields, StructEncoder};
 use bitcode::{ConvertFrom, DecodeOwned, Error, HasDecoder, HasEncoder, Shaped};
@@ -29,6 +29,8 @@ impl InFields<Fields> for Pause {
     type Numbers = ();
 
     type Inside = <Pause as HasDecoder<'static>>::Decoder;
+
+    ghost same_state = { state_alike };
 
     ghost same_columns = { refl };
 

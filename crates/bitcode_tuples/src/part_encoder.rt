@@ -1,9 +1,10 @@
 //! Encoders of fields of a value, which borrow them from it.
-ghost use Rattle.std.specs.Prelude.{◌≡◌, ◌≢◌, ℕ, ◌+◌, ◌<◌, ◌≤◌, Bool, [], length, map, ◌&&◌, IsTrue, OnOk, IfErr};
+ghost use Rattle.std.specs.Prelude.{◌≡◌, ◌≢◌, ℕ, ◌+◌, ◌<◌, ◌≤◌, Bool, [], length, map, min, ◌&&◌, ◌⊎◌, IsTrue, OnOk};
+ghost use Rattle.std.specs.Prelude.{IfErr};
 ghost use Rattle.bitcode_shapes.specs.Datum.{Datum};
 ghost use Rattle.bitcode_shapes.specs.Shape.{Shape, pair_shape};
 ghost use Rattle.bitcode_shapes.specs.Pairs.{ListsPair};
-ghost use Rattle.bitcode_coder.specs.Columns.{emptied};
+ghost use Rattle.bitcode_coder.specs.Columns.{Columns, emptied, two};
 ghost use Rattle.bitcode_coder.specs.Coder.{written_columns, BeginsWith, JoinsListing, WritesListing};
 ghost use Rattle.bitcode_coder.specs.Coder.{OverflowsWithListing, JoinsEach, OverflowsWithEach, SurelyOverflows};
 ghost use Rattle.bitcode_coder.specs.Coder.{IsWritingRefusal};
@@ -23,12 +24,24 @@ use std::marker::PhantomData;
 ///
 /// [`Nth`] names one field, which has the encoder of its type. A pair names the fields of both, and has the pair of
 /// their encoders. `()` names none.
-pub trait PartEncoder<T, K>: Buffer {
+///
+/// Its ghost members repeat those of `Buffer`, which is no supertrait: the toolchain would pass it once more for each level
+/// of pairs. [`InFields`](crate::struct_encoder::InFields) says that they are the same.
+pub trait PartEncoder<T, K> {
     // the shape of these fields, in nested pairs
     ghost shape: { Shape };
 
     // their listings
     ghost lists: { T → Datum → Type 0 };
+
+    // the columns so far
+    ghost columns: { Self → Columns };
+
+    // how many more values surely have their place
+    ghost room: { Self → ℕ };
+
+    // so many more values make a number of arrays pass, whatever they are
+    ghost surely_overflows: { Self → ℕ → Type 0 };
 
     // with the room reserved, writing the part does not allocate
     ghost writes_free: { Bool };
@@ -95,6 +108,12 @@ impl<const I: usize, T: HasField<I>, E: Encoder<T::Field>> PartEncoder<T, Nth<I>
 
     ghost lists = { λ t d. T.Field.data.lists (T.field t) d };
 
+    ghost columns = { E.columns };
+
+    ghost room = { E.room };
+
+    ghost surely_overflows = { E.surely_overflows };
+
     ghost writes_free = { E.writes_free };
 
     fn encode_part(&mut self, whole: &T) -> Result<(), Error> {
@@ -128,6 +147,13 @@ impl<T, K, L, A: PartEncoder<T, K>, B: PartEncoder<T, L>> PartEncoder<T, (K, L)>
 
     ghost lists = { λ t d. ListsPair A.lists B.lists (t, t) d };
 
+    ghost columns = { λ e. two (A.columns e.first) (B.columns e.second) };
+
+    ghost room = { λ e. min (A.room e.first) (B.room e.second) };
+
+    ghost surely_overflows = { λ e n. A.surely_overflows e.first n
+        ⊎ B.surely_overflows e.second n };
+
     ghost writes_free = { A.writes_free && B.writes_free };
 
     fn encode_part(&mut self, whole: &T) -> Result<(), Error> {
@@ -158,6 +184,12 @@ impl<T, E: Encoder<()>> PartEncoder<T, ()> for E {
     ghost shape = { ⟦<() as Shaped>⟧.data.shape };
 
     ghost lists = { λ t d. ⟦<() as Shaped>⟧.data.lists tt d };
+
+    ghost columns = { E.columns };
+
+    ghost room = { E.room };
+
+    ghost surely_overflows = { E.surely_overflows };
 
     ghost writes_free = { E.writes_free };
 

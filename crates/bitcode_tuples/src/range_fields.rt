@@ -1,7 +1,7 @@
 //! The fields of ranges: their ends.
 ghost use Rattle.std.specs.Prelude.{refl};
 ghost use Rattle.std.specs.Range.{range_inclusive_end, range_inclusive_start};
-ghost use Rattle.bitcode_tuples.specs.FieldLaws.{field_alike, pair_alike};
+ghost use Rattle.bitcode_tuples.specs.FieldLaws.{field_alike, pair_alike, state_alike};
 
 use crate::encoder::TupleEncoder;
 use crate::has_field::{HasField, Nth};
@@ -35,6 +35,8 @@ impl<T: Shaped, A: Encoder<T>, B: Encoder<T>> InFields<TupleEncoder<A, B>> for R
 
     type Inside = ();
 
+    ghost same_state = { state_alike };
+
     ghost same_columns = { refl };
 
     ghost of_fields = { λ d h. h };
@@ -66,6 +68,8 @@ impl<T: Shaped, A: Encoder<T>, B: Encoder<T>> InFields<TupleEncoder<A, B>> for R
     type Numbers = (Nth<0>, Nth<1>);
 
     type Inside = ();
+
+    ghost same_state = { state_alike };
 
     ghost same_columns = { refl };
 

@@ -3,7 +3,7 @@ ghost use Rattle.std.specs.Prelude.{◌≡◌, map};
 ghost use Rattle.bitcode_shapes.specs.Datum.{Datum};
 ghost use Rattle.bitcode_shapes.specs.Shape.{IsOf};
 ghost use Rattle.bitcode_coder.specs.Coder.{written_columns};
-ghost use Rattle.bitcode_tuples.specs.FieldLaws.{SameListings, struct_of_shape, struct_surely};
+ghost use Rattle.bitcode_tuples.specs.FieldLaws.{SameListings, SameState, struct_of_shape, struct_surely};
 ghost use Rattle.bitcode_tuples.specs.Pairs.{EachListed};
 
 use crate::part_encoder::PartEncoder;
@@ -14,7 +14,7 @@ use bitcode_shapes::shaped::Shaped;
 use std::alloc::Global;
 
 /// A value that `E` encodes field by field, with the fields in nested pairs.
-pub trait InFields<E: PartEncoder<Self, Self::Numbers>>: Shaped {
+pub trait InFields<E: Buffer + PartEncoder<Self, Self::Numbers>>: Shaped {
     /// The numbers of the fields, in nested pairs: `((Nth<0>, Nth<1>), (Nth<2>, (Nth<3>, Nth<4>)))`.
     type Numbers;
 
@@ -22,6 +22,10 @@ pub trait InFields<E: PartEncoder<Self, Self::Numbers>>: Shaped {
     /// where nothing owns memory. It says nothing about the values. It is there because the toolchain accepts an impl
     /// only for types that it names.
     type Inside;
+
+    // both traits of the encoder of the fields speak of the same columns
+    ghost same_state: { SameState E.Buffer.columns E.PartEncoder.columns E.Buffer.room
+        E.PartEncoder.room E.Buffer.surely_overflows E.PartEncoder.surely_overflows };
 
     // the columns are those of the fields
     ghost same_columns: { written_columns E.shape ≡ written_columns Self.data.shape };
@@ -72,7 +76,7 @@ impl<E: Buffer> Buffer for StructEncoder<E> {
     }
 }
 
-impl<T: InFields<E>, E: PartEncoder<T, T::Numbers>> Encoder<T> for StructEncoder<E> {
+impl<T: InFields<E>, E: Buffer + PartEncoder<T, T::Numbers>> Encoder<T> for StructEncoder<E> {
     ghost writes_free = { E.writes_free };
 
     fn encode(&mut self, t: &T) -> Result<(), Error> {
@@ -96,15 +100,15 @@ impl<T: InFields<E>, E: PartEncoder<T, T::Numbers>> Encoder<T> for StructEncoder
         self.fields.encode_part_in_each(items, which)
     }
 
-    ghost of_shape = { λ e. struct_of_shape E.shape T.data.shape T.same_columns E.of_shape
-        e.fields };
+    ghost of_shape = { λ e. struct_of_shape T.same_state E.shape T.data.shape T.same_columns
+        E.of_shape e.fields };
 
-    ghost surely = { λ e n h. struct_surely E.columns E.shape T.data.shape T.same_columns
+    ghost surely = { λ e n h. struct_surely T.same_state E.shape T.data.shape T.same_columns
         T.of_fields E.surely e.fields n h };
 }
 
 /// The fields of each item have a listing.
-fn listed_fields<T: InFields<E>, E: PartEncoder<T, T::Numbers>, S, W: Part<S, T>>(
+fn listed_fields<T: InFields<E>, E: Buffer + PartEncoder<T, T::Numbers>, S, W: Part<S, T>>(
     items: &[S],
     which: &W,
 )

@@ -1,5 +1,5 @@
 //! `Sale` corresponds to the tuple of its fields. What is below its declaration was written by `scripts/new_type`.
-ghost use Rattle.bitcode.specs.ByHand.{data_as, field_alike, pair_alike, refl};
+ghost use Rattle.bitcode.specs.ByHand.{data_as, field_alike, pair_alike, refl, state_alike};
 
 use bitcode::own::{DecoderOfFields, HasField, InFields, Nth, StructEncoder};
 use bitcode::{ConvertFrom, Error, HasDecoder, HasEncoder, Shaped};
@@ -76,6 +76,8 @@ impl<'a> InFields<Fields<'a>> for Sale<'a> {
     type Numbers = (Nth<0>, (Nth<1>, Nth<2>));
 
     type Inside = <Sale<'a> as HasDecoder<'a>>::Decoder;
+
+    ghost same_state = { state_alike };
 
     ghost same_columns = { refl };
 

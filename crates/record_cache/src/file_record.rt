@@ -1,7 +1,7 @@
 //! `FileRecord` corresponds to the tuple of its fields. What is below its declaration was written by
 //! `scripts/new_type`.
 ghost use Rattle.std.specs.Prelude.{◌≡◌};
-ghost use Rattle.bitcode.specs.ByHand.{data_as, field_alike, pair_alike, refl};
+ghost use Rattle.bitcode.specs.ByHand.{data_as, field_alike, pair_alike, refl, state_alike};
 
 use bitcode::own::{DecoderOfFields, HasField, InFields, Nth, StructEncoder};
 use bitcode::sealed::{
@@ -95,6 +95,8 @@ impl InFields<Fields> for FileRecord {
     type Numbers = ((Nth<0>, Nth<1>), (Nth<2>, Nth<3>));
 
     type Inside = <FileRecord as HasDecoder<'static>>::Decoder;
+
+    ghost same_state = { state_alike };
 
     ghost same_columns = { refl };
 

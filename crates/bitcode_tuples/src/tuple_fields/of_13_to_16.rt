@@ -1,7 +1,7 @@
 // Written by scripts/tables/tuples.
 //! The fields of tuples of thirteen to sixteen fields, and the nested pairs that they are encoded as.
 ghost use Rattle.std.specs.Prelude.{◌≡◌, refl};
-ghost use Rattle.bitcode_tuples.specs.FieldLaws.{field_alike, pair_alike};
+ghost use Rattle.bitcode_tuples.specs.FieldLaws.{field_alike, pair_alike, state_alike};
 
 use crate::encoder::TupleEncoder;
 use crate::has_field::{HasField, Nth};
@@ -200,6 +200,8 @@ impl<
     );
 
     type Inside = ();
+
+    ghost same_state = { state_alike };
 
     ghost same_columns = { refl };
 
@@ -419,6 +421,8 @@ impl<
     );
 
     type Inside = ();
+
+    ghost same_state = { state_alike };
 
     ghost same_columns = { refl };
 
@@ -651,6 +655,8 @@ impl<
     );
 
     type Inside = ();
+
+    ghost same_state = { state_alike };
 
     ghost same_columns = { refl };
 
@@ -897,6 +903,8 @@ impl<
     );
 
     type Inside = ();
+
+    ghost same_state = { state_alike };
 
     ghost same_columns = { refl };
 

@@ -1,7 +1,7 @@
 // Written by scripts/tables/tuples.
 //! The fields of tuples of three to eight fields, and the nested pairs that they are encoded as.
 ghost use Rattle.std.specs.Prelude.{◌≡◌, refl};
-ghost use Rattle.bitcode_tuples.specs.FieldLaws.{field_alike, pair_alike};
+ghost use Rattle.bitcode_tuples.specs.FieldLaws.{field_alike, pair_alike, state_alike};
 
 use crate::encoder::TupleEncoder;
 use crate::has_field::{HasField, Nth};
@@ -50,6 +50,8 @@ impl<
     type Numbers = (Nth<0>, (Nth<1>, Nth<2>));
 
     type Inside = ();
+
+    ghost same_state = { state_alike };
 
     ghost same_columns = { refl };
 
@@ -111,6 +113,8 @@ impl<
     type Numbers = ((Nth<0>, Nth<1>), (Nth<2>, Nth<3>));
 
     type Inside = ();
+
+    ghost same_state = { state_alike };
 
     ghost same_columns = { refl };
 
@@ -186,6 +190,8 @@ impl<
     type Numbers = ((Nth<0>, Nth<1>), (Nth<2>, (Nth<3>, Nth<4>)));
 
     type Inside = ();
+
+    ghost same_state = { state_alike };
 
     ghost same_columns = { refl };
 
@@ -274,6 +280,8 @@ impl<
     type Numbers = ((Nth<0>, (Nth<1>, Nth<2>)), (Nth<3>, (Nth<4>, Nth<5>)));
 
     type Inside = ();
+
+    ghost same_state = { state_alike };
 
     ghost same_columns = { refl };
 
@@ -381,6 +389,8 @@ impl<
     );
 
     type Inside = ();
+
+    ghost same_state = { state_alike };
 
     ghost same_columns = { refl };
 
@@ -500,6 +510,8 @@ impl<
     );
 
     type Inside = ();
+
+    ghost same_state = { state_alike };
 
     ghost same_columns = { refl };
 

@@ -1,7 +1,7 @@
 // Written by scripts/tables/tuples.
 //! The fields of tuples of nine to twelve fields, and the nested pairs that they are encoded as.
 ghost use Rattle.std.specs.Prelude.{◌≡◌, refl};
-ghost use Rattle.bitcode_tuples.specs.FieldLaws.{field_alike, pair_alike};
+ghost use Rattle.bitcode_tuples.specs.FieldLaws.{field_alike, pair_alike, state_alike};
 
 use crate::encoder::TupleEncoder;
 use crate::has_field::{HasField, Nth};
@@ -130,6 +130,8 @@ impl<
     );
 
     type Inside = ();
+
+    ghost same_state = { state_alike };
 
     ghost same_columns = { refl };
 
@@ -274,6 +276,8 @@ impl<
     );
 
     type Inside = ();
+
+    ghost same_state = { state_alike };
 
     ghost same_columns = { refl };
 
@@ -434,6 +438,8 @@ impl<
     );
 
     type Inside = ();
+
+    ghost same_state = { state_alike };
 
     ghost same_columns = { refl };
 
@@ -621,6 +627,8 @@ impl<
     );
 
     type Inside = ();
+
+    ghost same_state = { state_alike };
 
     ghost same_columns = { refl };
 

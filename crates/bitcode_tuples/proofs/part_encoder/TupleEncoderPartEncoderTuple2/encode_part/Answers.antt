@@ -19,7 +19,7 @@ returns-in_err-encode_part-clause-refused g c =
     rw (refused.1, refused.2) (
     refusal_weaker _ (λ some. overflows_as (λ t. (t, t)) whole (
     overflows_with_first g.A.PartEncoder.lists g.B.PartEncoder.lists g.A.PartEncoder.shape g.B.PartEncoder.shape (whole, whole)
-    (g.A.Buffer.columns c.args.self.now.first) (g.B.Buffer.columns c.args.self.now.second) listing.second listing.lists_second some
+    (g.A.PartEncoder.columns c.args.self.now.first) (g.B.PartEncoder.columns c.args.self.now.second) listing.second listing.lists_second some
     )) c.in_err-encode_part.ensures.refused
     )
 
@@ -28,8 +28,8 @@ returns-clause-joined g c =
     let whole = c.args.whole.now in
     on_ok_weaker c.encode_part-2.result (λ later. joins_as (λ t. (t, t)) whole (
     joins_pair g.A.PartEncoder.lists g.B.PartEncoder.lists g.A.PartEncoder.shape g.B.PartEncoder.shape (whole, whole)
-    (g.A.Buffer.columns c.args.self.now.first) (g.B.Buffer.columns c.args.self.now.second)
-    (g.A.Buffer.columns c.encode_part.new.self) (g.B.Buffer.columns c.encode_part-2.new.self) c.in_ok-encode_part.ensures.joined later
+    (g.A.PartEncoder.columns c.args.self.now.first) (g.B.PartEncoder.columns c.args.self.now.second)
+    (g.A.PartEncoder.columns c.encode_part.new.self) (g.B.PartEncoder.columns c.encode_part-2.new.self) c.in_ok-encode_part.ensures.joined later
     )) c.encode_part-2.ensures.joined
 
 pub returns-clause-refused : goal.returns-clause-refused
@@ -38,5 +38,5 @@ returns-clause-refused g c =
     let joined = c.in_ok-encode_part.ensures.joined in
     refused_weaker (λ (e : Error). e.reason) c.encode_part-2.result (λ some. overflows_as (λ t. (t, t)) whole (
     overflows_with_second g.A.PartEncoder.lists g.B.PartEncoder.lists g.A.PartEncoder.shape g.B.PartEncoder.shape (whole, whole)
-    (g.A.Buffer.columns c.args.self.now.first) (g.B.Buffer.columns c.args.self.now.second) joined.datum joined.listing some
+    (g.A.PartEncoder.columns c.args.self.now.first) (g.B.PartEncoder.columns c.args.self.now.second) joined.datum joined.listing some
     )) c.encode_part-2.ensures.refused

@@ -7,14 +7,14 @@ use Rattle.bitcode_tuples.proofs.part_encoder.TupleEncoderPartEncoderTuple2.writ
 
 pub write_part-requires-clause-none : goal.write_part-requires-clause-none
 write_part-requires-clause-none g c =
-    (none_in_both (g.A.Buffer.columns c.args.self.now.first) (g.B.Buffer.columns c.args.self.now.second) c.requires.none).0
+    (none_in_both (g.A.PartEncoder.columns c.args.self.now.first) (g.B.PartEncoder.columns c.args.self.now.second) c.requires.none).0
 
 pub write_part-requires-clause-listed : goal.write_part-requires-clause-listed
 write_part-requires-clause-listed g c = let listing = c.requires.listed.1 in (listing.first, listing.lists_first)
 
 pub write_part-requires-2-clause-none : goal.write_part-requires-2-clause-none
 write_part-requires-2-clause-none g c =
-    (none_in_both (g.A.Buffer.columns c.args.self.now.first) (g.B.Buffer.columns c.args.self.now.second) c.requires.none).1
+    (none_in_both (g.A.PartEncoder.columns c.args.self.now.first) (g.B.PartEncoder.columns c.args.self.now.second) c.requires.none).1
 
 pub write_part-requires-2-clause-listed : goal.write_part-requires-2-clause-listed
 write_part-requires-2-clause-listed g c = let listing = c.requires.listed.1 in (listing.second, listing.lists_second)
@@ -27,7 +27,7 @@ returns-in_err-write_part-clause-refused g c =
     rw (refused.1, refused.2) (
     refusal_weaker _ (λ some. overflows_as (λ t. (t, t)) whole (
     overflows_with_first g.A.PartEncoder.lists g.B.PartEncoder.lists g.A.PartEncoder.shape g.B.PartEncoder.shape (whole, whole)
-    (g.A.Buffer.columns c.args.self.now.first) (g.B.Buffer.columns c.args.self.now.second) listing.second listing.lists_second some
+    (g.A.PartEncoder.columns c.args.self.now.first) (g.B.PartEncoder.columns c.args.self.now.second) listing.second listing.lists_second some
     )) c.in_err-write_part.ensures.refused
     )
 
@@ -36,7 +36,7 @@ returns-clause-written g c =
     let whole = c.args.whole.now in
     on_ok_weaker c.write_part-2.result (λ later. writes_as (λ t. (t, t)) whole (
     writes_pair g.A.PartEncoder.lists g.B.PartEncoder.lists g.A.PartEncoder.shape g.B.PartEncoder.shape (whole, whole)
-    (g.A.Buffer.columns c.args.self.now.first) (g.B.Buffer.columns c.args.self.now.second)
+    (g.A.PartEncoder.columns c.args.self.now.first) (g.B.PartEncoder.columns c.args.self.now.second)
     c.args.out.now.items c.write_part.new.out.items c.write_part-2.new.out.items c.in_ok-write_part.ensures.written later
     )) c.write_part-2.ensures.written
 
@@ -46,5 +46,5 @@ returns-clause-refused g c =
     let joined = c.in_ok-write_part.ensures.written.joined in
     refused_weaker (λ (e : Error). e.reason) c.write_part-2.result (λ some. overflows_as (λ t. (t, t)) whole (
     overflows_with_second g.A.PartEncoder.lists g.B.PartEncoder.lists g.A.PartEncoder.shape g.B.PartEncoder.shape (whole, whole)
-    (g.A.Buffer.columns c.args.self.now.first) (g.B.Buffer.columns c.args.self.now.second) joined.datum joined.listing some
+    (g.A.PartEncoder.columns c.args.self.now.first) (g.B.PartEncoder.columns c.args.self.now.second) joined.datum joined.listing some
     )) c.write_part-2.ensures.refused
