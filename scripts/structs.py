@@ -68,9 +68,7 @@ impl$encoded InFields<$by> for $name {
 
     type Inside = $inside;
 
-    ghost same_state = { state_alike };
-
-    ghost same_columns = { refl };
+    ghost same_columns = { columns_alike refl };
 
     ghost of_fields = { λ d h. h };
 
@@ -357,7 +355,7 @@ def tuple_text(item, imports, own, lent, **row):
     is_closed = closed.is_closed(item, own)
     coders = {closed.NEEDED} if is_closed else {"bitcode::coder::{ColumnFree, Decoder, HoldsData, View}"} if apart else ()
     imports = {*imports, "std::alloc::Global", *coders}
-    by_hand = [*((["SurelyOverflows"] if item.lifetime else ["ReadsValue", "SurelyOverflows"]) if is_closed else []), "data_as", "field_alike", *(["pair_alike"] if len(fields) > 1 else []), "refl", "state_alike"]
+    by_hand = [*((["SurelyOverflows"] if item.lifetime else ["ReadsValue", "SurelyOverflows"]) if is_closed else []), "columns_alike", "data_as", "field_alike", *(["pair_alike"] if len(fields) > 1 else []), "refl"]
     operators, more = closed_head(item, own)
     used |= more
     named = ""

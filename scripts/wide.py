@@ -139,6 +139,6 @@ def wide_text(struct, own, told):
     head = Template(HEAD).substitute(
         about=f"`{struct.name}` corresponds to pairs of parts of its fields. What is below its declaration was written by `scripts/new_type`.",
         operators=closed_head(struct, own)[0],
-        by_hand=f"ghost use Rattle.bitcode.specs.ByHand.{{{', '.join([*([] if struct.lifetime else ['ReadsValue']), 'SurelyOverflows', 'data_as', 'field_alike', 'lists_both', 'pair_alike', 'refl', 'state_alike'])}}};\n", uses="\n".join(uses) + "\n",
+        by_hand=f"ghost use Rattle.bitcode.specs.ByHand.{{{', '.join([*([] if struct.lifetime else ['ReadsValue']), 'SurelyOverflows', 'columns_alike', 'data_as', 'field_alike', 'lists_both', 'pair_alike', 'refl'])}}};\n", uses="\n".join(uses) + "\n",
     )
     return head + declaration(struct) + "\n" + "\n".join(texts) + body, checker.crates

@@ -1,6 +1,6 @@
 //! `Known` corresponds to the tuple of its fields. What is below its declaration was written by `scripts/new_type`.
 ghost use Rattle.std.specs.Prelude.{[], false, ◌≡◌};
-ghost use Rattle.bitcode.specs.ByHand.{empty_vec, field_alike, pair_alike, refl, skipped_data, state_alike};
+ghost use Rattle.bitcode.specs.ByHand.{columns_alike, empty_vec, field_alike, pair_alike, refl, skipped_data};
 
 use bitcode::own::{DecoderOfFields, HasField, InFields, Nth, StructEncoder};
 use bitcode::{ConvertFrom, DecodeOwned, Error, HasDecoder, HasEncoder, Shaped};
@@ -68,9 +68,7 @@ impl InFields<Fields> for Known {
 
     type Inside = <Known as HasDecoder<'static>>::Decoder;
 
-    ghost same_state = { state_alike };
-
-    ghost same_columns = { refl };
+    ghost same_columns = { columns_alike refl };
 
     ghost of_fields = { λ d h. h };
 

@@ -1,6 +1,6 @@
 //! `Queue` corresponds to the tuple of its fields. What is below its declaration was written by `scripts/new_type`.
 ghost use Rattle.std.specs.Prelude.{◌≡◌};
-ghost use Rattle.bitcode.specs.ByHand.{data_as, field_alike, pair_alike, refl, state_alike};
+ghost use Rattle.bitcode.specs.ByHand.{columns_alike, data_as, field_alike, pair_alike, refl};
 
 use crate::hurry::Hurry;
 use crate::state::State;
@@ -70,9 +70,7 @@ impl InFields<Fields> for Queue {
 
     type Inside = <Queue as HasDecoder<'static>>::Decoder;
 
-    ghost same_state = { state_alike };
-
-    ghost same_columns = { refl };
+    ghost same_columns = { columns_alike refl };
 
     ghost of_fields = { λ d h. h };
 

@@ -1,5 +1,5 @@
 //! `Sale` corresponds to the tuple of its fields. What is below its declaration was written by `scripts/new_type`.
-ghost use Rattle.bitcode.specs.ByHand.{MakesToo, data_as, field_alike, pair_alike, refl, state_alike};
+ghost use Rattle.bitcode.specs.ByHand.{MakesToo, columns_alike, data_as, field_alike, pair_alike, refl};
 
 use crate::percent::Percent;
 use bitcode::own::{
@@ -76,9 +76,7 @@ impl<'a> InFields<Fields<'a>> for Sale<'a> {
 
     type Inside = <Sale<'a> as HasDecoder<'a>>::Decoder;
 
-    ghost same_state = { state_alike };
-
-    ghost same_columns = { refl };
+    ghost same_columns = { columns_alike refl };
 
     ghost of_fields = { λ d h. h };
 

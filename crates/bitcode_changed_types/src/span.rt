@@ -1,7 +1,7 @@
 //! `Span` corresponds to the tuple of its fields. What is below its declaration was written by `scripts/new_type`.
 ghost use Rattle.std.specs.Prelude.{MatchOption, false, true, ◌≡◌};
-ghost use Rattle.bitcode.specs.ByHand.{admits, admits-takes, admitted_data, field_alike, nat_le, natural_back};
-ghost use Rattle.bitcode.specs.ByHand.{pair_alike, pair_back, refl, state_alike};
+ghost use Rattle.bitcode.specs.ByHand.{admits, admits-takes, admitted_data, columns_alike, field_alike, nat_le};
+ghost use Rattle.bitcode.specs.ByHand.{natural_back, pair_alike, pair_back, refl};
 
 use bitcode::own::{DecoderOfChecked, FromChecked, HasField, InFields, Nth, StructEncoder};
 use bitcode::{DecodeOwned, HasDecoder, HasEncoder, Shaped};
@@ -91,9 +91,7 @@ impl InFields<Fields> for Span {
 
     type Inside = <Span as HasDecoder<'static>>::Decoder;
 
-    ghost same_state = { state_alike };
-
-    ghost same_columns = { refl };
+    ghost same_columns = { columns_alike refl };
 
     ghost of_fields = { λ d h. h.0 };
 

@@ -1,8 +1,8 @@
 //! `Account` corresponds to pairs of parts of its fields. What is below its declaration was written by
 //! `scripts/new_type`.
 ghost use Rattle.std.specs.Prelude.{◌&&◌};
-ghost use Rattle.bitcode.specs.ByHand.{SurelyOverflows, data_as, field_alike, lists_both, pair_alike, refl};
-ghost use Rattle.bitcode.specs.ByHand.{state_alike};
+ghost use Rattle.bitcode.specs.ByHand.{SurelyOverflows, columns_alike, data_as, field_alike, lists_both, pair_alike};
+ghost use Rattle.bitcode.specs.ByHand.{refl};
 
 use crate::home::Home;
 use crate::trophy::Trophy;
@@ -884,9 +884,7 @@ impl<'a> InFields<Fields> for Account<'a> {
 
     type Inside = AccountInside<'a>;
 
-    ghost same_state = { state_alike };
-
-    ghost same_columns = { refl };
+    ghost same_columns = { columns_alike refl };
 
     ghost of_fields = { λ d h. h };
 

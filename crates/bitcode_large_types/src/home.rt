@@ -1,7 +1,7 @@
 //! `Home` corresponds to the tuple of its fields. What is below its declaration was written by `scripts/new_type`.
 ghost use Rattle.std.specs.Prelude.{◌∷◌};
-ghost use Rattle.bitcode.specs.ByHand.{[], ands_in_order, data_as, field_alike, key_as, pair_alike, refl, state_alike};
-ghost use Rattle.bitcode.specs.ByHand.{thens_in_order};
+ghost use Rattle.bitcode.specs.ByHand.{[], ands_in_order, columns_alike, data_as, field_alike, key_as, pair_alike};
+ghost use Rattle.bitcode.specs.ByHand.{refl, thens_in_order};
 
 use bitcode::own::{DecoderOfFields, HasField, InFields, Nth, StructEncoder};
 use bitcode::{ConvertFrom, DecodeOwned, Error, HasDecoder, HasEncoder, Key, Shaped};
@@ -80,9 +80,7 @@ impl InFields<Fields> for Home {
 
     type Inside = <Home as HasDecoder<'static>>::Decoder;
 
-    ghost same_state = { state_alike };
-
-    ghost same_columns = { refl };
+    ghost same_columns = { columns_alike refl };
 
     ghost of_fields = { λ d h. h };
 

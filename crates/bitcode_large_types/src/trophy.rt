@@ -1,7 +1,7 @@
 //! `Trophy` corresponds to the tuple of its fields. What is below its declaration was written by `scripts/new_type`.
 ghost use Rattle.std.specs.Prelude.{◌&&◌, IfSome};
-ghost use Rattle.bitcode.specs.ByHand.{ReadsValue, SurelyOverflows, data_as, field_alike, pair_alike, refl};
-ghost use Rattle.bitcode.specs.ByHand.{state_alike};
+ghost use Rattle.bitcode.specs.ByHand.{ReadsValue, SurelyOverflows, columns_alike, data_as, field_alike, pair_alike};
+ghost use Rattle.bitcode.specs.ByHand.{refl};
 
 use bitcode::coder::{Buffer, ColumnFree, Decoder, Encoder, HoldsData, View};
 use bitcode::own::{DecoderOfFields, HasField, InFields, Nth, Part, StructEncoder, reserve_as};
@@ -64,9 +64,7 @@ impl InFields<Fields> for Trophy {
 
     type Inside = TrophyInside;
 
-    ghost same_state = { state_alike };
-
-    ghost same_columns = { refl };
+    ghost same_columns = { columns_alike refl };
 
     ghost of_fields = { λ d h. h };
 

@@ -1,5 +1,5 @@
 //! `Foo` corresponds to the tuple of its fields. What is below its declaration was written by `scripts/new_type`.
-ghost use Rattle.bitcode.specs.ByHand.{data_as, field_alike, pair_alike, refl, state_alike};
+ghost use Rattle.bitcode.specs.ByHand.{columns_alike, data_as, field_alike, pair_alike, refl};
 
 use bitcode::own::{DecoderOfFields, HasField, InFields, Nth, StructEncoder};
 use bitcode::{ConvertFrom, Error, HasDecoder, HasEncoder, Shaped};
@@ -57,9 +57,7 @@ impl<'a> InFields<Fields<'a>> for Foo<'a> {
 
     type Inside = <Foo<'a> as HasDecoder<'a>>::Decoder;
 
-    ghost same_state = { state_alike };
-
-    ghost same_columns = { refl };
+    ghost same_columns = { columns_alike refl };
 
     ghost of_fields = { λ d h. h };
 

@@ -1,5 +1,5 @@
 //! `Pause` corresponds to the tuple of its fields. What is below its declaration was written by `scripts/new_type`.
-ghost use Rattle.bitcode.specs.ByHand.{data_as, field_alike, refl, state_alike};
+ghost use Rattle.bitcode.specs.ByHand.{columns_alike, data_as, field_alike, refl};
 
 use bitcode::own::{DecoderOfFields, InFields, StructEncoder};
 use bitcode::{ConvertFrom, DecodeOwned, Error, HasDecoder, HasEncoder, Shaped};
@@ -30,9 +30,7 @@ impl InFields<Fields> for Pause {
 
     type Inside = <Pause as HasDecoder<'static>>::Decoder;
 
-    ghost same_state = { state_alike };
-
-    ghost same_columns = { refl };
+    ghost same_columns = { columns_alike refl };
 
     ghost of_fields = { λ d h. h };
 

@@ -26,7 +26,7 @@ use std::marker::PhantomData;
 /// their encoders. `()` names none.
 ///
 /// Its ghost members repeat those of `Buffer`, which is no supertrait: the toolchain would pass it once more for each level
-/// of pairs. [`InFields`](crate::struct_encoder::InFields) says that they are the same.
+/// of pairs. [`InFields`](crate::struct_encoder::InFields) states that they are the same.
 pub trait PartEncoder<T, K> {
     // the shape of these fields, in nested pairs
     ghost shape: { Shape };

@@ -1,7 +1,7 @@
 //! The fields of ranges: their ends.
 ghost use Rattle.std.specs.Prelude.{refl};
 ghost use Rattle.std.specs.Range.{range_inclusive_end, range_inclusive_start};
-ghost use Rattle.bitcode_tuples.specs.FieldLaws.{field_alike, pair_alike, state_alike};
+ghost use Rattle.bitcode_tuples.specs.FieldLaws.{columns_alike, field_alike, pair_alike};
 
 use crate::encoder::TupleEncoder;
 use crate::has_field::{HasField, Nth};
@@ -35,9 +35,7 @@ impl<T: Shaped, A: Encoder<T>, B: Encoder<T>> InFields<TupleEncoder<A, B>> for R
 
     type Inside = ();
 
-    ghost same_state = { state_alike };
-
-    ghost same_columns = { refl };
+    ghost same_columns = { columns_alike refl };
 
     ghost of_fields = { λ d h. h };
 
@@ -69,9 +67,7 @@ impl<T: Shaped, A: Encoder<T>, B: Encoder<T>> InFields<TupleEncoder<A, B>> for R
 
     type Inside = ();
 
-    ghost same_state = { state_alike };
-
-    ghost same_columns = { refl };
+    ghost same_columns = { columns_alike refl };
 
     ghost of_fields = { λ d h. h };
 

@@ -1,9 +1,8 @@
 //! The encoder of structs, and of tuples of three and more fields.
-ghost use Rattle.std.specs.Prelude.{◌≡◌, map};
+ghost use Rattle.std.specs.Prelude.{map};
 ghost use Rattle.bitcode_shapes.specs.Datum.{Datum};
 ghost use Rattle.bitcode_shapes.specs.Shape.{IsOf};
-ghost use Rattle.bitcode_coder.specs.Coder.{written_columns};
-ghost use Rattle.bitcode_tuples.specs.FieldLaws.{SameListings, SameState, struct_of_shape, struct_surely};
+ghost use Rattle.bitcode_tuples.specs.FieldLaws.{SameColumns, SameListings, struct_of_shape, struct_surely};
 ghost use Rattle.bitcode_tuples.specs.Pairs.{EachListed};
 
 use crate::part_encoder::PartEncoder;
@@ -23,12 +22,10 @@ pub trait InFields<E: Buffer + PartEncoder<Self, Self::Numbers>>: Shaped {
     /// only for types that it names.
     type Inside;
 
-    // both traits of the encoder of the fields speak of the same columns
-    ghost same_state: { SameState E.Buffer.columns E.PartEncoder.columns E.Buffer.room
-        E.PartEncoder.room E.Buffer.surely_overflows E.PartEncoder.surely_overflows };
-
-    // the columns are those of the fields
-    ghost same_columns: { written_columns E.shape ≡ written_columns Self.data.shape };
+    // the columns are those of the fields, for both traits of their encoder
+    ghost same_columns: { SameColumns E.Buffer.columns E.PartEncoder.columns E.Buffer.room
+        E.PartEncoder.room E.Buffer.surely_overflows E.PartEncoder.surely_overflows E.shape
+        Self.data.shape };
 
     // and the data are data of the fields
     ghost of_fields: { (d : Datum) → IsOf Self.data.shape d → IsOf E.shape d };
@@ -100,11 +97,9 @@ impl<T: InFields<E>, E: Buffer + PartEncoder<T, T::Numbers>> Encoder<T> for Stru
         self.fields.encode_part_in_each(items, which)
     }
 
-    ghost of_shape = { λ e. struct_of_shape T.same_state E.shape T.data.shape T.same_columns
-        E.of_shape e.fields };
+    ghost of_shape = { λ e. struct_of_shape T.same_columns E.of_shape e.fields };
 
-    ghost surely = { λ e n h. struct_surely T.same_state E.shape T.data.shape T.same_columns
-        T.of_fields E.surely e.fields n h };
+    ghost surely = { λ e n h. struct_surely T.same_columns T.of_fields E.surely e.fields n h };
 }
 
 /// The fields of each item have a listing.

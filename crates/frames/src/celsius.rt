@@ -1,7 +1,7 @@
 //! `Celsius` corresponds to the tuple of its fields. What is below its declaration was written by `scripts/new_type`.
 ghost use Rattle.std.specs.Prelude.{MatchOption, false, int_le, negsuc, true, ◌≡◌};
-ghost use Rattle.bitcode.specs.ByHand.{admits, admits-takes, admitted_data, field_alike, integer_back, refl};
-ghost use Rattle.bitcode.specs.ByHand.{state_alike};
+ghost use Rattle.bitcode.specs.ByHand.{admits, admits-takes, admitted_data, columns_alike, field_alike, integer_back};
+ghost use Rattle.bitcode.specs.ByHand.{refl};
 
 use bitcode::own::{DecoderOfChecked, FromChecked, HasField, InFields, Nth, StructEncoder};
 use bitcode::{DecodeOwned, HasDecoder, HasEncoder, Shaped};
@@ -79,9 +79,7 @@ impl InFields<Fields> for Celsius {
 
     type Inside = <Celsius as HasDecoder<'static>>::Decoder;
 
-    ghost same_state = { state_alike };
-
-    ghost same_columns = { refl };
+    ghost same_columns = { columns_alike refl };
 
     ghost of_fields = { λ d h. h.0 };
 

@@ -1,5 +1,5 @@
 //! `Entity` corresponds to the tuple of its fields. What is below its declaration was written by `scripts/new_type`.
-ghost use Rattle.bitcode.specs.ByHand.{data_as, field_alike, pair_alike, refl, state_alike};
+ghost use Rattle.bitcode.specs.ByHand.{columns_alike, data_as, field_alike, pair_alike, refl};
 
 use crate::kind::Kind;
 use bitcode::own::{DecoderOfFields, HasField, InFields, Nth, StructEncoder};
@@ -142,9 +142,7 @@ impl InFields<Fields> for Entity {
 
     type Inside = <Entity as HasDecoder<'static>>::Decoder;
 
-    ghost same_state = { state_alike };
-
-    ghost same_columns = { refl };
+    ghost same_columns = { columns_alike refl };
 
     ghost of_fields = { λ d h. h };
 

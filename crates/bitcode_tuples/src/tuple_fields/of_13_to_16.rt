@@ -1,7 +1,7 @@
 // Written by scripts/tables/tuples.
 //! The fields of tuples of thirteen to sixteen fields, and the nested pairs that they are encoded as.
 ghost use Rattle.std.specs.Prelude.{◌≡◌, refl};
-ghost use Rattle.bitcode_tuples.specs.FieldLaws.{field_alike, pair_alike, state_alike};
+ghost use Rattle.bitcode_tuples.specs.FieldLaws.{columns_alike, field_alike, pair_alike};
 
 use crate::encoder::TupleEncoder;
 use crate::has_field::{HasField, Nth};
@@ -201,9 +201,7 @@ impl<
 
     type Inside = ();
 
-    ghost same_state = { state_alike };
-
-    ghost same_columns = { refl };
+    ghost same_columns = { columns_alike refl };
 
     ghost of_fields = { λ d h. h };
 
@@ -422,9 +420,7 @@ impl<
 
     type Inside = ();
 
-    ghost same_state = { state_alike };
-
-    ghost same_columns = { refl };
+    ghost same_columns = { columns_alike refl };
 
     ghost of_fields = { λ d h. h };
 
@@ -656,9 +652,7 @@ impl<
 
     type Inside = ();
 
-    ghost same_state = { state_alike };
-
-    ghost same_columns = { refl };
+    ghost same_columns = { columns_alike refl };
 
     ghost of_fields = { λ d h. h };
 
@@ -904,9 +898,7 @@ impl<
 
     type Inside = ();
 
-    ghost same_state = { state_alike };
-
-    ghost same_columns = { refl };
+    ghost same_columns = { columns_alike refl };
 
     ghost of_fields = { λ d h. h };
 
