@@ -1,6 +1,6 @@
 -- What is read of a column of integers of which not all are allowed, and why its reader refuses.
 use Rattle.std.proofs.Common.{◌≡◌, ◌≢◌, ℕ, zero, suc, ◌^◌, ◌<◌, Bool, true, ℤ, pos, negsuc, Option, Some, None, List, [], ◌∷◌, length, map, All, refl, sym, ap, ap₂, inl, inr, ◌∙◌, subst, arith}
-use Rattle.std.specs.Prelude.{MatchOption, is_some, ◌&&◌, unsigned_abs}
+use Rattle.std.specs.Prelude.{MatchOption, IfSome, is_some, ◌&&◌, unsigned_abs}
 use Rattle.std.specs.Int.Signed.{le_z}
 use Rattle.std.proofs.lemmas.Bool.{cond-true}
 use Rattle.std.proofs.lemmas.Int.{ints}
@@ -18,8 +18,9 @@ use Rattle.bitcode_shapes.proofs.CheckedLemmas.{nonzero_unsigned, nonzero_signed
 use Rattle.bitcode_shapes.specs.Datum.{Datum, number, number_in}
 use Rattle.bitcode_shapes.specs.Shape.{Allowed, any_number, nonzero, scalar, between, IsAllowed, IsNumberOf, number_shape}
 use Rattle.bitcode_coder.specs.Faults.{NamesCheckedFault, in_column, not_allowed}
+use Rattle.bitcode_ints.specs.Int.{ReadsInt}
 use Rattle.bitcode_ints.specs.CheckedColumn.{is_allowed, allowed_front, checked_data}
-use Rattle.bitcode_coder.specs.Coder.{IsReadingReason, IsReadingRefusal}
+use Rattle.bitcode_coder.specs.Coder.{IsReadingReason, IsReadingRefusal, ReadsValue}
 use Rattle.bitcode_coder.specs.Spelling.{Spells, number_of_residue}
 use Rattle.bitcode_coder.proofs.OneColumnLemmas.{reads_of}
 use Rattle.bitcode_coder.proofs.IntLemmas.{ints_refused, number_is}
@@ -77,6 +78,29 @@ checked_read residue_of width signed allowed count old entries new known r below
       counts = tt;
       columns = record { entries = map residue_of entries; are = refl; spelled = record { spelled = s; in_width = below } };
     }))
+
+-- one integer that is allowed
+pub checked_one_read : (width : ℕ) (signed : Bool) (allowed : Allowed) {z : ℤ} {old new : List ℕ} → IsWidth width → ReadsInt width signed z old new
+    → IsAllowed allowed z → Reads (Spells (number_shape width signed allowed)) 1 old (number z ∷ []) new
+checked_one_read width signed allowed {z} {old} {new} known r each =
+    let zs = number_of width signed r.residue ∷ [] in
+    let residues = λ (P : ℕ → Type 0) (h : P r.residue). All-cons P r.residue [] h (All-nil P) in
+    let allows : All (λ n. IsAllowed allowed (number_of width signed n)) (r.residue ∷ []) =
+    residues (λ n. IsAllowed allowed (number_of width signed n)) (subst (IsAllowed allowed) r.is each) in
+    let front : allowed_front allowed zs ≡ zs =
+    all_in_front allowed zs (All-cons (IsAllowed allowed) (number_of width signed r.residue) [] (subst (IsAllowed allowed) r.is each) (All-nil (IsAllowed allowed))) in
+    let is : checked_data allowed zs ≡ number z ∷ [] = ap (map number) front ∙ ap (λ y. number y ∷ []) (sym r.is) in
+    subst (λ ds. Reads (Spells (number_shape width signed allowed)) 1 old ds new) is
+    (checked_read (λ n. n) width signed allowed 1 old (r.residue ∷ []) new known r.read (residues (λ n. n < 256 ^ width) r.below) allows)
+
+-- the value of one integer, if the type allows it
+pub value_read : {T : Type 0} (makes : Datum → T → Type 0) (width : ℕ) (signed : Bool) (allowed : Allowed) {z : ℤ} {old new : List ℕ} (result : Option T)
+    → IsWidth width → ReadsInt width signed z old new
+    → MatchOption result (IsAllowed allowed z → ⊥) (λ t. IsAllowed allowed z × makes (number z) t)
+    → IfSome result (λ t. ReadsValue makes (number_shape width signed allowed) old t new)
+value_read makes width signed allowed None known r made = tt
+value_read makes width signed allowed {z} (Some t) known r made =
+    record { datum = number z; read = checked_one_read width signed allowed known r made.0; made = made.1 }
 
 -- allowed numbers are those that stand in the data
 pub checked_numbers : {Entry : Type 0} (f : Entry → ℤ) (allowed : Allowed) (entries : List Entry) → All (λ e. IsAllowed allowed (f e)) entries

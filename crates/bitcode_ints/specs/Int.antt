@@ -1,7 +1,9 @@
 -- The data of integers, and the data of their bytes.
-use Rattle.std.specs.Prelude.{◌≡◌, ℕ, Bool, ℤ, List, ◌++◌, map}
+use Rattle.std.specs.Prelude.{◌≡◌, ℕ, ◌^◌, ◌<◌, Bool, ℤ, List, [], ◌∷◌, ◌++◌, map}
 use Rattle.std.specs.List.{AllZip}
-use Rattle.bitcode_columns.specs.IntColumn.{int_text}
+use Rattle.bitcode_columns.specs.IntColumn.{SpellsInts, int_text}
+use Rattle.bitcode_columns.specs.Reading.{Reads}
+use Rattle.bitcode_memory.specs.Ints.{number_of}
 use Rattle.bitcode_memory.specs.LittleEndian.{little_endian}
 use Rattle.bitcode_shapes.specs.Datum.{Datum, number}
 use Rattle.bitcode_coder.specs.Spelling.{number_of_residue}
@@ -26,3 +28,10 @@ pub record WritesInts {T I : Type 0} (lists : T → Datum → Type 0) (width : �
   pub ints : List I
   pub stand : AllZip (λ t int. lists t (number (value int))) values ints
   pub written : after ≡ before ++ int_text width (map value ints)
+
+-- a prefix of the old input is the column of this integer, and the new input is the rest
+pub record ReadsInt (width : ℕ) (signed : Bool) (z : ℤ) (old new : List ℕ) : Type 0 where
+  pub residue : ℕ
+  pub read : Reads (SpellsInts width) 1 old (residue ∷ []) new
+  pub below : residue < 256 ^ width
+  pub is : z ≡ number_of width signed residue

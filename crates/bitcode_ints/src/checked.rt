@@ -1,13 +1,15 @@
 //! Types that allow only some integers, and their decoder.
-ghost use Rattle.std.specs.Prelude.{◌≡◌, true, All, MatchBool, MatchOption};
+ghost use Rattle.std.specs.Prelude.{◌≡◌, true, All, MatchBool, MatchOption, IfSome};
 ghost use Rattle.std.proofs.Common.{sym};
 ghost use Rattle.bitcode_memory.specs.Fast.{cow_rest, cow_owned};
 ghost use Rattle.bitcode_memory.specs.LittleEndian.{little_endian};
 ghost use Rattle.bitcode_memory.specs.Ints.{number_of};
 ghost use Rattle.bitcode_shapes.specs.Datum.{number};
 ghost use Rattle.bitcode_shapes.specs.Shape.{Allowed, IsAllowed, number_shape};
+ghost use Rattle.bitcode_coder.specs.Coder.{ReadsValue};
 ghost use Rattle.bitcode_ints.specs.CheckedColumn.{numbers_of, checked_data};
 
+use crate::int::Integer;
 use bitcode_coder::coder::{Decoder, HoldsData, View};
 use bitcode_coder::column_free::ColumnFree;
 use bitcode_int_columns::column_int::ColumnInt;
@@ -97,12 +99,25 @@ impl<'a, C: Checked<I>, I: ColumnInt> View<'a> for CheckedIntDecoder<'a, C, I> {
     }
 }
 
-impl<'a, C: Checked<I>, I: ColumnInt> Decoder<C> for CheckedIntDecoder<'a, C, I> {
+impl<'a, C: Checked<I>, I: Integer> Decoder<C> for CheckedIntDecoder<'a, C, I> {
     ghost makes_free = { true };
 
     fn decode(&mut self) -> Result<C, Error> {
         let bits = I::from_unaligned(self.values.next_unchecked());
         Ok(C::from_bits(bits).unwrap())
+    }
+
+    fn reads_one() -> bool {
+        true
+    }
+
+    #[inline(always)]
+    fn read_one(alloc: Global, input: &mut &[u8]) -> Option<C>
+        ensures { IfSome result
+            (λ t. ReadsValue C.data.makes (number_shape I.width I.signed C.allowed) input.old.now t
+            input.new.now) }
+    {
+        C::from_bits(I::read_int(alloc, input)?)
     }
 
     ghost same_shape = { sym C.checked_shape };

@@ -2,7 +2,7 @@
 #![tactic(auto)]
 
 ghost use Rattle.std.specs.Prelude.{◌≡◌, ◌+◌, ◌≤◌, ◌++◌, List, [], ◌∷◌, length, map, take, drop, pos, true};
-ghost use Rattle.std.specs.Prelude.{false, IsTrue, IsFalse, IsOk, IfOk, OnOk, IfErr, OnErr};
+ghost use Rattle.std.specs.Prelude.{false, IsTrue, IsFalse, IsOk, IfOk, OnOk, IfErr, OnErr, IfSome};
 ghost use Rattle.std.proofs.Common.{sym};
 ghost use Rattle.bitcode_memory.specs.Fast.{fast_items, fast_room, cow_rest, fast_capacity, cow_owned};
 ghost use Rattle.bitcode_memory.specs.Ints.{number_of};
@@ -16,7 +16,7 @@ ghost use Rattle.bitcode_coder.specs.Coder.{IsReadingRefusal, written_columns};
 ghost use Rattle.bitcode_coder.specs.FirstFault.{IsFirstFault};
 ghost use Rattle.bitcode_coder.specs.ColumnFree.{free_count, saturated};
 ghost use Rattle.bitcode_coder.specs.Strict.{JudgesData};
-ghost use Rattle.bitcode_ints.specs.Int.{int_data, bytes_data, PushesInts, WritesInts};
+ghost use Rattle.bitcode_ints.specs.Int.{int_data, bytes_data, PushesInts, WritesInts, ReadsInt};
 
 use bitcode_coder::coder::{Buffer, Decoder, Encoder, HoldsData, View};
 use bitcode_coder::column_free::ColumnFree;
@@ -135,6 +135,13 @@ pub trait Integer: ColumnInt + Shaped {
     {
         ints_of(alloc, bytes.chunk_unchecked(n))
     }
+
+    /// Reads a column of one integer from the front of the input.
+    ///
+    /// The contract promises nothing of `None`: it is returned if the read or an allocation fails.
+    fn read_int(alloc: Global, input: &mut &[u8]) -> Option<Self>
+        ensures { IfSome result
+            (λ t. ReadsInt Self.width Self.signed (Self.number t) input.old.now input.new.now) };
 
     ghost integer_shape: { Self.data.shape ≡ int_shape Self.width Self.signed };
 
@@ -261,6 +268,19 @@ fn ints_of<T: ColumnInt>(alloc: Global, unaligned: &[T::Une]) -> Result<Vec<T>, 
         ints.push_reserved(T::from_unaligned(*bytes));
     }
     Ok(ints)
+}
+
+// Reads a column of one integer from the front of the input.
+#[inline(always)]
+fn one_int<'a, T: ColumnInt + 'a>(alloc: Global, input: &mut &'a [u8]) -> Option<T>
+    ensures { IfSome result
+        (λ t. ReadsInt T.width T.signed (T.number t) input.old.now input.new.now) }
+{
+    let mut values = CowSlice::new(alloc);
+    let Ok(_) = T::unpack(alloc, input, 1, &mut values, false) else {
+        return None;
+    };
+    Some(T::from_unaligned(values.next_unchecked()))
 }
 
 // Takes the next `n` bytes as integers of one byte each.

@@ -1,7 +1,7 @@
 -- Arrays are read as the elements of all, which are cut into arrays again.
 use Rattle.std.proofs.Common.{◌≡◌, Bool, ℕ, zero, suc, ◌+◌, ◌-◌, ◌*◌, ◌^◌, ◌<◌, ◌≤◌, List, [], ◌∷◌, ◌++◌, length, map, take, drop, replicate, refl, sym, ◌∙◌, ap, ap₂, subst, arith}
 use Rattle.std.specs.Prelude.{All}
-use Rattle.std.proofs.Math.Seq.{take-append_seam, drop-append_seam}
+use Rattle.std.proofs.Math.Seq.{take-append_seam, drop-append_seam, take-length}
 use Rattle.std.proofs.lemmas.List.{take-append-drop, length-take-le, length-drop, nil_from_length}
 use Rattle.std.proofs.lemmas.List.Elements.{All-nil, All-cons, All-take, All-drop}
 use Rattle.bitcode_memory.specs.declared.error.Reason.{Reason}
@@ -14,7 +14,7 @@ use Rattle.bitcode_coder.specs.ColumnFree.{has_entry, count_if_free, free_count,
 use Rattle.bitcode_coder.specs.Columns.{CountsFit}
 use Rattle.bitcode_coder.specs.Transposition.{columns_of, joined}
 use Rattle.bitcode_coder.specs.Spelling.{Spells, SpellsColumns}
-use Rattle.bitcode_coder.specs.Coder.{IsReadingRefusal, TakesDatum, TakesEach}
+use Rattle.bitcode_coder.specs.Coder.{IsReadingRefusal, ReadsValue, ReadsValues, TakesDatum, TakesEach}
 use Rattle.bitcode_coder.specs.Strict.{JudgesData}
 use Rattle.bitcode_coder.proofs.ColumnFreeLemmas.{saturated_more}
 use Rattle.bitcode_coder.proofs.CuttingLemmas.{cut-enough, cut-few}
@@ -153,6 +153,22 @@ module _ (size : ℕ) (shape : Shape) (k : ℕ) where
 
   pub refuses_elements : (reason : Reason) (old : List ℕ) → IsReadingRefusal shape reason (k * size) old → IsReadingRefusal (array_shape size shape) reason k old
   refuses_elements reason old h = (h.0, λ other ds rest r. h.1 other (joined ds) rest (reads_elements old rest ds r))
+
+-- ---- one array is read
+
+pub array_read : {T : Type 0} (makes : Datum → T → Type 0) (size : ℕ) (shape : Shape) {old new : List ℕ} {items : List T} → size < 2 ^ 64
+    → ReadsValues makes shape size old items new → ReadsValue (MakesSequence makes) (array_shape size shape) old items new
+array_read makes size shape {old} {new} fits r =
+    let same : size ≡ 1 * size = omega arith in
+    let whole : arrays_of size 1 r.parts ≡ list (data_of r.parts) ∷ [] =
+    arrays_of-more size 0 r.parts (omega (arith, r.read.size)) ∙ ap (λ n. list (data_of (take n r.parts)) ∷ []) (sym r.read.size)
+    ∙ ap (λ ds. list (data_of ds) ∷ []) (take-length r.parts) in
+    record {
+      datum = list (data_of r.parts);
+      read = subst (λ ds. Reads (Spells (array_shape size shape)) 1 old ds new) whole
+          (reads_arrays size shape 1 old new r.parts (omega (arith, fits)) (subst (λ n. Reads (Spells shape) n old r.parts new) same r.read));
+      made = record { elements = r.parts; is = refl; each = r.made };
+    }
 
 -- ---- an array is made
 

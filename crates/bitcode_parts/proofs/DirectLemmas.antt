@@ -1,7 +1,7 @@
--- One value that is read straight from the input: of an option its variant and the value that it may have, of a list
--- its length and its elements.
+-- One value that is read straight from the input: of an option or a result its variant and the value that it may have,
+-- of an enum without payloads its variant, of a list its length and its elements.
 use Rattle.std.proofs.Common.{◌≡◌, ℕ, zero, suc, ◌<◌, ◌/◌, ◌%◌, slice_index, List, [], ◌∷◌, ◌++◌, length, map, take, sum, None, refl, sym, ◌∙◌, ap, subst, lit<, arith}
-use Rattle.std.specs.Prelude.{All, Option, Some, IfSome}
+use Rattle.std.specs.Prelude.{All, Option, Some, IfSome, Result, Ok, Err}
 use Rattle.std.specs.declared.alloc.Global.{Global}
 use Rattle.std.proofs.Common.{Vec}
 use Rattle.std.specs.List.{AllZip}
@@ -13,7 +13,8 @@ use Rattle.bitcode_columns.specs.Reading.{Reads}
 use Rattle.bitcode_columns.specs.VariantColumn.{SpellsVariants}
 use Rattle.bitcode_shapes.specs.Datum.{Datum, unit, choice, list, data_of}
 use Rattle.bitcode_shapes.specs.Empty.{MakesUnit}
-use Rattle.bitcode_shapes.specs.Choices.{MakesChoice, MakesLast, MakesVariant, option_variant}
+use Rattle.bitcode_shapes.specs.Choices.{MakesChoice, MakesLast, MakesVariant, option_variant, result_variant}
+use Rattle.bitcode_shapes.specs.BareVariants.{bare_shape, MakesBare}
 use Rattle.bitcode_shapes.specs.Lists.{MakesSequence}
 use Rattle.bitcode_shapes.specs.Shape.{Shape, choice_shape, seq_shape, shape_and, no_shapes, unit_shape, IsOf, IsSound}
 use Rattle.bitcode_coder.specs.Columns.{Kind, Columns, bools, ints, floats, lengths, texts, raws, variants, no_columns, one, two, arrays, emptied, CountsFit}
@@ -25,6 +26,7 @@ use Rattle.bitcode_coder.proofs.CuttingLemmas.{cut-enough}
 use Rattle.bitcode_coder.proofs.SpellingLemmas.{columns_bytes-spells, Spells-nothing}
 use Rattle.bitcode_coder.proofs.TranspositionLemmas.{columns_of-none}
 use Rattle.bitcode_parts.specs.Lists.{lists_of}
+use Rattle.bitcode_parts.proofs.BareVariantLemmas.{known_choices, reads_bare}
 use Rattle.bitcode_parts.proofs.ChoiceReadingLemmas.{reads_choices}
 use Rattle.bitcode_parts.proofs.ListLemmas.{reads_sequence}
 
@@ -69,7 +71,12 @@ reads_unit input = record {
 reads_no_unit : (input : List ℕ) → Reads (Spells unit_shape) 0 input [] input
 reads_no_unit input = record { size = refl; piece = []; whole = refl; spelled = record { of_shape = All-nil (IsOf unit_shape); counts = tt; columns = refl } }
 
--- ---- options
+-- ---- options and results
+
+is_one : (v : ℕ) → (v ≡ 0 → ⊥) → v < 2 → v ≡ 1
+is_one zero h below = absurd (h refl)
+is_one (suc zero) h below = refl
+is_one (suc (suc v)) h below = absurd (omega (arith, below))
 
 -- a byte is the column of one variant of two: its lowest digit
 pub one_variant : (byte : ℕ) {old rest : List ℕ} → old ≡ byte ∷ rest → Reads (SpellsVariants 2) 1 old (byte % 2 ∷ []) rest
@@ -121,11 +128,52 @@ module _ {T : Type 0} (makes : Datum → T → Type 0) (shape : Shape) {old midd
         });
         made = record { index = 1; payload = r.datum; is = refl; makes_payload = r.made };
       }
-    where
-      is_one : (v : ℕ) → (v ≡ 0 → ⊥) → v < 2 → v ≡ 1
-      is_one zero h below = absurd (h refl)
-      is_one (suc zero) h below = refl
-      is_one (suc (suc v)) h below = absurd (omega (arith, below))
+
+abbrev makes_result : {A B : Type 0} → (Datum → A → Type 0) → (Datum → B → Type 0) → Datum → Result A B → Type 0
+makes_result makes_ok makes_err d r = MakesChoice (MakesVariant makes_ok (MakesLast makes_err)) d (result_variant r)
+
+module _ {A B : Type 0} (makes_ok : Datum → A → Type 0) (makes_err : Datum → B → Type 0) (ok err : Shape) {old middle new : List ℕ} {variant : ℕ}
+    (read : Reads (SpellsVariants 2) 1 old (variant ∷ []) middle) where
+  pub ok_read : {t : A} → IsSound err → variant ≡ 0 → ReadsValue makes_ok ok middle t new
+      → ReadsValue (makes_result makes_ok makes_err) (choice_shape (shape_and ok (shape_and err no_shapes))) old (Ok t) new
+  ok_read sound is r =
+      let q : Reads (SpellsVariants 2) 1 old (0 ∷ []) middle = subst (λ v. Reads (SpellsVariants 2) 1 old (v ∷ []) middle) is read in
+      record {
+        datum = choice 0 r.datum;
+        read = reads_choices (shape_and ok (shape_and err no_shapes)) ((r.datum ∷ []) ∷ ([] ∷ [])) new q (record {
+          middle = new;
+          first = r.read;
+          behind = record { middle = new; first = reads_nothing err sound new; behind = refl };
+        });
+        made = record { index = 0; payload = r.datum; is = refl; makes_payload = r.made };
+      }
+
+  pub err_read : {t : B} → IsSound ok → (variant ≡ 0 → ⊥) → ReadsValue makes_err err middle t new
+      → ReadsValue (makes_result makes_ok makes_err) (choice_shape (shape_and ok (shape_and err no_shapes))) old (Err t) new
+  err_read sound other r =
+      let is : variant ≡ 1 = is_one variant other (All-head (λ entry. entry < 2) variant [] read.spelled.known) in
+      let q : Reads (SpellsVariants 2) 1 old (1 ∷ []) middle = subst (λ v. Reads (SpellsVariants 2) 1 old (v ∷ []) middle) is read in
+      record {
+        datum = choice 1 r.datum;
+        read = reads_choices (shape_and ok (shape_and err no_shapes)) ([] ∷ ((r.datum ∷ []) ∷ [])) new q (record {
+          middle = middle;
+          first = reads_nothing ok sound middle;
+          behind = record { middle = new; first = r.read; behind = refl };
+        });
+        made = record { index = 1; payload = r.datum; is = refl; makes_payload = r.made };
+      }
+
+-- ---- one variant without a payload
+
+pub bare_read : {T : Type 0} (variant : T → ℕ) (makes : Datum → T → Type 0) → ((d : Datum) (t : T) → MakesBare variant d t → makes d t)
+    → (count : ℕ) {old new : List ℕ} {index : ℕ} → Reads (SpellsVariants count) 1 old (index ∷ []) new → (t : T) → variant t ≡ index
+    → ReadsValue makes (bare_shape count) old t new
+bare_read variant makes makes_bare count {old} {new} {index} read t is = record {
+  datum = choice index unit;
+  read = subst (λ ds. Reads (Spells (bare_shape count)) 1 old ds new) (known_choices count (index ∷ []) read.spelled.known)
+      (reads_bare count 1 old new (index ∷ []) read);
+  made = makes_bare (choice index unit) t (ap (λ n. choice n unit) (sym is));
+}
 
 -- ---- lists
 

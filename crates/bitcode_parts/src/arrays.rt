@@ -1,9 +1,9 @@
 //! The coders of arrays.
 ghost use Rattle.std.specs.Prelude.{◌≡◌, ◌+◌, ◌*◌, ◌^◌, ◌<◌, ◌≤◌, ◌==◌, ◌||◌, IsTrue, IsOk, IfOk, OnOk, IfErr};
-ghost use Rattle.std.specs.Prelude.{◌↔◌, OnErr, IsErrOf};
+ghost use Rattle.std.specs.Prelude.{◌↔◌, OnErr, IsErrOf, IfSome};
 ghost use Rattle.bitcode_columns.specs.Reading.{Reads, IsEndOf};
 ghost use Rattle.bitcode_shapes.specs.Shape.{array_shape};
-ghost use Rattle.bitcode_coder.specs.Coder.{IsWritingRefusal, IsReadingRefusal};
+ghost use Rattle.bitcode_coder.specs.Coder.{IsWritingRefusal, IsReadingRefusal, ReadsValue};
 ghost use Rattle.bitcode_coder.specs.FirstFault.{IsFirstFault};
 ghost use Rattle.bitcode_coder.specs.ColumnFree.{has_entry, count_if_free, free_count, saturated};
 ghost use Rattle.bitcode_coder.specs.Spelling.{Spells};
@@ -258,11 +258,20 @@ impl<T: Shaped + Drop, D: Decoder<T>, const N: usize> Decoder<[T; N]> for ArrayD
 
     // All four are written here: the toolchain does not allow the trait's own where a size depends on `N`.
     fn reads_one() -> bool {
-        false
+        D::reads_lists()
     }
 
-    fn read_one(_alloc: Global, _input: &mut &[u8]) -> Option<[T; N]> {
-        None
+    #[inline(always)]
+    fn read_one(alloc: Global, input: &mut &[u8]) -> Option<[T; N]>
+        ensures { IfSome result
+            (λ t. ReadsValue ⟦<[T; N] as Shaped>⟧.data.makes (array_shape N D.shape) input.old.now t
+            input.new.now) }
+    {
+        let items = D::read_list(alloc, input, N)?;
+        match <[T; N]>::try_from(items) {
+            Ok(array) => Some(array),
+            Err(_items) => None,
+        }
     }
 
     fn reads_lists() -> bool {

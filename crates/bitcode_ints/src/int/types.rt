@@ -2,7 +2,7 @@
 //! Integers, which are written unchanged.
 ghost use Rattle.std.specs.Prelude.{refl};
 
-use crate::int::{AsInt, Integer, list_of_bytes, push_themselves, write_themselves};
+use crate::int::{AsInt, Integer, list_of_bytes, one_int, push_themselves, write_themselves};
 use bitcode_memory::error::Error;
 use bitcode_memory::fast::{CowSlice, FastVec};
 use std::alloc::Global;
@@ -32,6 +32,11 @@ impl Integer for u8 {
         list_of_bytes(alloc, bytes, n)
     }
 
+    #[inline(always)]
+    fn read_int(alloc: Global, input: &mut &[u8]) -> Option<u8> {
+        one_int::<u8>(alloc, input)
+    }
+
     ghost integer_shape = { refl };
 
     ghost integer_makes = { λ t. refl };
@@ -54,6 +59,11 @@ impl AsInt<u16> for u16 {
 }
 
 impl Integer for u16 {
+    #[inline(always)]
+    fn read_int(alloc: Global, input: &mut &[u8]) -> Option<u16> {
+        one_int::<u16>(alloc, input)
+    }
+
     ghost integer_shape = { refl };
 
     ghost integer_makes = { λ t. refl };
@@ -76,6 +86,11 @@ impl AsInt<u32> for u32 {
 }
 
 impl Integer for u32 {
+    #[inline(always)]
+    fn read_int(alloc: Global, input: &mut &[u8]) -> Option<u32> {
+        one_int::<u32>(alloc, input)
+    }
+
     ghost integer_shape = { refl };
 
     ghost integer_makes = { λ t. refl };
@@ -98,6 +113,11 @@ impl AsInt<u64> for u64 {
 }
 
 impl Integer for u64 {
+    #[inline(always)]
+    fn read_int(alloc: Global, input: &mut &[u8]) -> Option<u64> {
+        one_int::<u64>(alloc, input)
+    }
+
     ghost integer_shape = { refl };
 
     ghost integer_makes = { λ t. refl };
@@ -120,6 +140,11 @@ impl AsInt<u128> for u128 {
 }
 
 impl Integer for u128 {
+    #[inline(always)]
+    fn read_int(alloc: Global, input: &mut &[u8]) -> Option<u128> {
+        one_int::<u128>(alloc, input)
+    }
+
     ghost integer_shape = { refl };
 
     ghost integer_makes = { λ t. refl };
@@ -142,6 +167,11 @@ impl AsInt<usize> for usize {
 }
 
 impl Integer for usize {
+    #[inline(always)]
+    fn read_int(alloc: Global, input: &mut &[u8]) -> Option<usize> {
+        one_int::<usize>(alloc, input)
+    }
+
     ghost integer_shape = { refl };
 
     ghost integer_makes = { λ t. refl };
@@ -164,6 +194,11 @@ impl AsInt<i8> for i8 {
 }
 
 impl Integer for i8 {
+    #[inline(always)]
+    fn read_int(alloc: Global, input: &mut &[u8]) -> Option<i8> {
+        one_int::<i8>(alloc, input)
+    }
+
     ghost integer_shape = { refl };
 
     ghost integer_makes = { λ t. refl };
@@ -186,6 +221,11 @@ impl AsInt<i16> for i16 {
 }
 
 impl Integer for i16 {
+    #[inline(always)]
+    fn read_int(alloc: Global, input: &mut &[u8]) -> Option<i16> {
+        one_int::<i16>(alloc, input)
+    }
+
     ghost integer_shape = { refl };
 
     ghost integer_makes = { λ t. refl };
@@ -208,6 +248,11 @@ impl AsInt<i32> for i32 {
 }
 
 impl Integer for i32 {
+    #[inline(always)]
+    fn read_int(alloc: Global, input: &mut &[u8]) -> Option<i32> {
+        one_int::<i32>(alloc, input)
+    }
+
     ghost integer_shape = { refl };
 
     ghost integer_makes = { λ t. refl };
@@ -230,6 +275,11 @@ impl AsInt<i64> for i64 {
 }
 
 impl Integer for i64 {
+    #[inline(always)]
+    fn read_int(alloc: Global, input: &mut &[u8]) -> Option<i64> {
+        one_int::<i64>(alloc, input)
+    }
+
     ghost integer_shape = { refl };
 
     ghost integer_makes = { λ t. refl };
@@ -252,6 +302,11 @@ impl AsInt<i128> for i128 {
 }
 
 impl Integer for i128 {
+    #[inline(always)]
+    fn read_int(alloc: Global, input: &mut &[u8]) -> Option<i128> {
+        one_int::<i128>(alloc, input)
+    }
+
     ghost integer_shape = { refl };
 
     ghost integer_makes = { λ t. refl };
@@ -274,6 +329,11 @@ impl AsInt<isize> for isize {
 }
 
 impl Integer for isize {
+    #[inline(always)]
+    fn read_int(alloc: Global, input: &mut &[u8]) -> Option<isize> {
+        one_int::<isize>(alloc, input)
+    }
+
     ghost integer_shape = { refl };
 
     ghost integer_makes = { λ t. refl };

@@ -2,12 +2,14 @@
 #![tactic(auto, unfolding(crate::specs::Variants::written_variants, crate::specs::Variants::variants_left))]
 
 ghost use Rattle.std.proofs.Common.{sym};
-ghost use Rattle.std.specs.Prelude.{true};
+ghost use Rattle.std.specs.Prelude.{true, IfSome};
+ghost use Rattle.bitcode_shapes.specs.BareVariants.{bare_shape};
+ghost use Rattle.bitcode_coder.specs.Coder.{ReadsValue};
 ghost use Rattle.bitcode_parts.specs.BareVariants.{bare_columns, bare_of_shape};
 ghost use Rattle.bitcode_parts.specs.Variants.{written_variants, variant_room, variant_capacity};
 
 use crate::choices::gathered::{SaysVariant, gather_variants};
-use crate::choices::variant::{VariantDecoder, VariantEncoder};
+use crate::choices::variant::{VariantDecoder, VariantEncoder, read_variant};
 use bitcode_coder::coder::{Buffer, Decoder, Encoder, MAX_VECTORED_CHUNK};
 use bitcode_coder::part::Part;
 use bitcode_memory::error::Error;
@@ -109,7 +111,15 @@ impl<'a, const N: usize, const C_STYLE: bool, T: BareShaped<N>> Decoder<T>
 
     // Written here, since the value's size depends on `N`, which the toolchain does not allow for the trait's own.
     fn reads_one() -> bool {
-        false
+        true
+    }
+
+    #[inline(always)]
+    fn read_one(alloc: Global, input: &mut &[u8]) -> Option<T>
+        ensures { IfSome result
+            (λ t. ReadsValue T.data.makes (bare_shape N) input.old.now t input.new.now) }
+    {
+        Some(T::from_index(read_variant::<N>(alloc, input)?))
     }
 
     fn reads_lists() -> bool {

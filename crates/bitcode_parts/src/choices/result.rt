@@ -1,5 +1,6 @@
 //! The coders of results.
-ghost use Rattle.std.specs.Prelude.{◌+◌, [], ◌∷◌, false, ◌&&◌};
+ghost use Rattle.std.specs.Prelude.{◌+◌, [], ◌∷◌, false, ◌&&◌, IfSome};
+ghost use Rattle.bitcode_coder.specs.Coder.{ReadsValue};
 ghost use Rattle.bitcode_shapes.specs.Shape.{choice_shape, shape_and, no_shapes};
 ghost use Rattle.bitcode_coder.specs.Columns.{no_columns, two};
 ghost use Rattle.bitcode_parts.specs.Payloads.{choices_of};
@@ -9,6 +10,7 @@ ghost use Rattle.bitcode_parts.specs.Variants.{variant_room, variant_capacity, v
 use crate::choices::variant::{VariantDecoder, VariantEncoder, encode_payload};
 use bitcode_coder::coder::{Buffer, Decoder, Encoder, HoldsData, View, both};
 use bitcode_coder::column_free::ColumnFree;
+use bitcode_memory::consume::consume_byte;
 use bitcode_memory::error::Error;
 use bitcode_shapes::shaped::Shaped;
 use std::alloc::Global;
@@ -146,6 +148,26 @@ impl<'a, T: Shaped, E: Shaped, A: Decoder<T>, B: Decoder<E>> Decoder<Result<T, E
             Ok(Ok(self.ok.decode()?))
         } else {
             Ok(Err(self.err.decode()?))
+        }
+    }
+
+    fn reads_one() -> bool {
+        A::reads_one() && B::reads_one()
+    }
+
+    #[inline(always)]
+    fn read_one(alloc: Global, input: &mut &[u8]) -> Option<Result<T, E>>
+        ensures { IfSome result
+            (λ t. ReadsValue ⟦<Result<T, E> as Shaped>⟧.data.makes
+            ⟦<ResultDecoder<'a, A, B> as HoldsData>⟧.shape input.old.now t input.new.now) }
+    {
+        let Ok(byte) = consume_byte(input) else {
+            return None;
+        };
+        if byte % 2 == 0 {
+            Some(Ok(A::read_one(alloc, input)?))
+        } else {
+            Some(Err(B::read_one(alloc, input)?))
         }
     }
 

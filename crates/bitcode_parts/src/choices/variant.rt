@@ -2,7 +2,7 @@
 #![tactic(auto, unfolding(crate::specs::Variants::written_variants, crate::specs::Variants::variant_room, crate::specs::Variants::variant_capacity, crate::specs::Variants::variants_left, crate::specs::Variants::variant_counts, crate::specs::Variants::variants_owned))]
 
 ghost use Rattle.std.specs.Prelude.{◌≡◌, false, ◌+◌, ◌<◌, ◌≤◌, ◌++◌, [], ◌∷◌, length, map, slice_index, All, IsTrue};
-ghost use Rattle.std.specs.Prelude.{◌↔◌, IfOk, OnOk, IfErr, OnErr};
+ghost use Rattle.std.specs.Prelude.{◌↔◌, IfOk, OnOk, IfErr, OnErr, IfSome};
 ghost use Rattle.bitcode_memory.specs.Fast.{fast_items};
 ghost use Rattle.bitcode_columns.specs.Histogram.{AreCounts};
 ghost use Rattle.bitcode_columns.specs.Reading.{Reads, IsEndOf};
@@ -292,6 +292,26 @@ impl<'a, const N: usize, const C_STYLE: bool> View<'a> for VariantDecoder<'a, N,
     fn column_free(&self) -> ColumnFree {
         ColumnFree::entries()
     }
+}
+
+/// Reads one variant of an enum with `N` variants, 2 to 256, from the front of the input.
+///
+/// The contract promises nothing of `None`: it is returned if the read fails.
+///
+/// ```rust
+/// let mut input: &[u8] = &[5];
+/// assert_eq!(rt; read_variant::<3>(alloc, &mut input), Some(2));
+/// ```
+#[inline(always)]
+pub fn read_variant<const N: usize>(alloc: Global, input: &mut &[u8]) -> Option<u8>
+    ensures { IfSome result
+        (λ variant. Reads (SpellsVariants N) 1 input.old.now (variant ∷ []) input.new.now) }
+{
+    let mut variants = CowSlice::new(alloc);
+    let Ok(_) = read_variants::<N, 0>(alloc, input, 1, &mut variants, false) else {
+        return None;
+    };
+    Some(variants.next_unchecked())
 }
 
 /// Reserves room for the payload of a variant, and adds the payload to its columns.
