@@ -1,5 +1,5 @@
 -- Each block goes on where the items were written that lie before it.
-use Rattle.std.proofs.Common.{◌≡◌, ◌+◌, ◌-◌, ◌≤◌, ◌++◌, [], length, take, ap, ◌∙◌, sym, arith}
+use Rattle.std.proofs.Common.{◌≡◌, ◌+◌, ◌-◌, ◌≤◌, ◌++◌, length, take, ap, ◌∙◌, sym, arith}
 use Rattle.std.proofs.lemmas.List.{append-nil, take_all}
 use Rattle.bitcode_memory.proofs.PlacesLemmas.{block_written}
 use Rattle.bitcode_memory.proofs.fast.memory.Places.write_blocks.Goals as goal
