@@ -1,7 +1,7 @@
 -- The first items of places, after writes behind them.
 use Rattle.std.proofs.Common.{◌≡◌, refl, ◌⊎◌, inl, inr, subst, ℕ, suc, ◌+◌, ◌≤◌, List, [], ◌∷◌, ◌++◌, length, take, drop, sym, ap, ◌∙◌, arith, append_assoc, length-append, take_at, take-append-drop}
 use Rattle.std.specs.List.{refill}
-use Rattle.std.proofs.lemmas.List.{take_all, take-take, length-take, length-drop, nil_from_length}
+use Rattle.std.proofs.lemmas.List.{take_all, take-take, length-take, length-drop, drop-take, nil_from_length}
 
 module _ {X : Type 0} where
   -- nothing lies behind the item that was written last
@@ -40,6 +40,21 @@ module _ {X : Type 0} where
       ∙ ap (λ ys. take n old ++ ys) (ap (take m) is_front ∙ take-take m k src inside) in
       ap (λ j. take j last) all ∙ after ∙ ap (λ ys. ys ++ back) kept ∙ append_assoc (take n old) (take m src) back
       ∙ ap (λ ys. take n old ++ ys) (ap (λ ys. take m src ++ ys) is_back ∙ take-append-drop m src)
+
+  -- 16 items of a list were written behind those before them, of which k were written
+  pub block_written : (old now new src : List X) (n k m : ℕ) → n ≤ length old → m ≤ k → take (n + k) now ≡ take n old ++ take k src
+      → take (n + (m + 16)) new ≡ take (n + m) now ++ take 16 (drop m src) → take (n + (m + 16)) new ≡ take n old ++ take (m + 16) src
+  block_written old now new src n k m fits inside written after =
+      let size : length (take n old) ≡ n = omega (arith, length-take n old) in
+      let kept : take (n + m) now ≡ take n old ++ take m src =
+      sym (take-take (n + m) (n + k) now (omega arith)) ∙ ap (take (n + m)) written ∙ front_more (take n old) (take k src) n m size
+      ∙ ap (λ ys. take n old ++ ys) (take-take m k src inside) in
+      let all = take (m + 16) src in
+      let joined : take m src ++ take 16 (drop m src) ≡ all =
+      ap (λ ys. ys ++ take 16 (drop m src)) (sym (take-take m (m + 16) src (omega arith)))
+      ∙ ap (λ ys. take m all ++ ys) (sym (drop-take m 16 src)) ∙ take-append-drop m all in
+      after ∙ ap (λ ys. ys ++ take 16 (drop m src)) kept ∙ append_assoc (take n old) (take m src) (take 16 (drop m src))
+      ∙ ap (λ ys. take n old ++ ys) joined
 
   -- what lies before the items that were written is what was there
   pub front_kept : (old new block : List X) (n k : ℕ) → n ≤ length old → take (n + k) new ≡ take n old ++ block → take (n + 0) new ≡ take n old ++ []

@@ -60,18 +60,20 @@ struct Pushed {
     count: usize,
 }
 
-// Pushes the text that is a part of each item, up to the first one of 16 bytes or more. The lists are passed by value
-// and returned: through a reference, each text would load and store their lengths.
-fn push_short<S, P: AsText, W: Part<S, P>>(
+// Pushes the text that is a part of each item, up to the first one of more than `MOST` bytes. The lists are passed by
+// value and returned: through a reference, each text would load and store their lengths. Of 15 bytes, the loop has one
+// way to push them, and so each text takes fewer instructions than of 64.
+fn push_up_to<S, P: AsText, W: Part<S, P>, const MOST: usize>(
     mut lengths: LengthEncoder,
     mut bytes: FastVec<u8>,
     items: &[S],
     which: &W,
     others: &[u8; 8],
 ) -> Pushed
+    requires most { (15 ≤ MOST) × (MOST ≤ 64) }
     requires whole { sum (written_lengths lengths) ≡ length (fast_items bytes) }
     requires lengths { length items.now ≤ length_room lengths }
-    requires bytes { 15 * length items.now ≤ fast_room bytes }
+    requires bytes { MOST * length items.now ≤ fast_room bytes }
     ensures count { result.count ≤ length items.now }
     ensures written { PushesTexts P.data.lists (map (W.of which.now) (take result.count items.now))
         (texts_in lengths bytes) (texts_in result.lengths result.bytes) }
@@ -81,7 +83,7 @@ fn push_short<S, P: AsText, W: Part<S, P>>(
     let mut count = 0usize;
     for item in items {
         let text = which.part(item).as_text().as_bytes();
-        if text.len() >= 16 {
+        if text.len() > MOST {
             break;
         }
         lengths.encode_less_than_255(text.len());
@@ -115,18 +117,19 @@ impl StrEncoder {
     {
         let mut done = 0usize;
         while done < items.len() {
-            done += self.encode_short(&items[done..], which)?;
-            done += self.encode_long(&items[done..], which)?;
+            done += self.encode_up_to::<S, P, W, 15>(&items[done..], which)?;
+            done += self.encode_longer(&items[done..], which)?;
         }
         Ok(())
     }
 
-    // Writes the text that is a part of each item, up to the first one of 16 bytes or more. Returns their number.
-    fn encode_short<S, P: AsText, W: Part<S, P>>(
+    // Writes the text that is a part of each item, up to the first one of more than `MOST` bytes. Returns their number.
+    fn encode_up_to<S, P: AsText, W: Part<S, P>, const MOST: usize>(
         &mut self,
         items: &[S],
         which: &W,
     ) -> Result<usize, Error>
+        requires most { (15 ≤ MOST) × (MOST ≤ 64) }
         requires chunk { length items.now ≤ MAX_VECTORED_CHUNK }
         requires room { length items.now ≤ length_room self.old.lengths }
         ensures count { IfOk result (λ n. n ≤ length items.now) }
@@ -137,21 +140,47 @@ impl StrEncoder {
             (λ n. length_room self.old.lengths ≤ length_room self.new.lengths + n) }
         ensures refused { IfErr result (λ e. e.reason ≡ Reason.OutOfMemory) }
     {
-        self.bytes.reserve(15 * items.len())?;
+        if items.is_empty() {
+            return Ok(0);
+        }
+        self.bytes.reserve(MOST * items.len())?;
         let lengths = replace(&mut self.lengths, LengthEncoder::new(self.alloc));
         let bytes = replace(&mut self.bytes, FastVec::new(self.alloc));
         let Pushed {
             lengths,
             bytes,
             count,
-        } = push_short(lengths, bytes, items, which, &self.others);
+        } = push_up_to::<S, P, W, MOST>(lengths, bytes, items, which, &self.others);
         self.lengths = lengths;
         self.bytes = bytes;
         Ok(count)
     }
 
-    // Writes the text that is a part of the first item, and then those of 16 bytes and more. Returns their number.
+    // The same for texts of any length, at least for the first one. It stands alone, so that the loop over short texts
+    // has all registers.
     #[inline(never)]
+    fn encode_longer<S, P: AsText, W: Part<S, P>>(
+        &mut self,
+        items: &[S],
+        which: &W,
+    ) -> Result<usize, Error>
+        requires chunk { length items.now ≤ MAX_VECTORED_CHUNK }
+        requires room { length items.now ≤ length_room self.old.lengths }
+        ensures count { IfOk result (λ n. n ≤ length items.now) }
+        ensures some { IfOk result (λ n. 0 < length items.now → 0 < n) }
+        ensures written { IfOk result
+            (λ n. PushesTexts P.data.lists (map (W.of which.now) (take n items.now))
+            (written_texts self.old) (written_texts self.new)) }
+        ensures room { IfOk result
+            (λ n. length_room self.old.lengths ≤ length_room self.new.lengths + n) }
+        ensures refused { IfErr result (λ e. e.reason ≡ Reason.OutOfMemory) }
+    {
+        let some = self.encode_up_to::<S, P, W, 64>(items, which)?;
+        let long = self.encode_long(&items[some..], which)?;
+        Ok(some + long)
+    }
+
+    // Writes the text that is a part of the first item, and then those of more than 64 bytes. Returns their number.
     fn encode_long<S, P: AsText, W: Part<S, P>>(
         &mut self,
         items: &[S],
@@ -170,7 +199,7 @@ impl StrEncoder {
         let mut count = 0usize;
         for item in items {
             let text = which.part(item).as_text().as_bytes();
-            if count > 0 && text.len() < 16 {
+            if count > 0 && text.len() <= 64 {
                 break;
             }
             self.encode_text(text)?;

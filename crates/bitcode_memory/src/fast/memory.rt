@@ -1,5 +1,5 @@
 //! The memory of a list with reserved room: a block of places, of which the first hold items.
-ghost use Rattle.std.specs.Prelude.{◌≡◌, ◌⊎◌, ℕ, ◌+◌, ◌^◌, ◌<◌, ◌≤◌, List, [], ◌∷◌, ◌++◌, length, take, IfOk, ⊤};
+ghost use Rattle.std.specs.Prelude.{◌≡◌, ◌⊎◌, ℕ, ◌+◌, ◌^◌, ◌<◌, ◌≤◌, List, [], ◌∷◌, ◌++◌, length, take, drop, IfOk, ⊤};
 ghost use Rattle.std.specs.Borrow.{sem};
 ghost use Rattle.std.specs.Vec.Ownership.{FitsInBlock};
 ghost use base.Fml.{ftrue};
@@ -294,6 +294,53 @@ impl<T> Places<T> {
     {
         let block = *first_of(src, others.first_chunk::<N>().unwrap());
         self.write_each(start, index, &block);
+    }
+
+    /// Writes 16 to 64 items after the first `index` ones. Any later items are forgotten.
+    ///
+    /// It writes four blocks of 16, of which each begins where the one before ends, or earlier. So no branch depends on
+    /// the count, which the processor would mispredict.
+    #[inline(always)]
+    pub(crate) fn write_blocks(&mut self, start: Start<T>, index: usize, src: &[T])
+    where
+        T: Copy,
+        requires size { (16 ≤ length src.now) × (length src.now ≤ 64) }
+        requires places { (start.ptr ≡ self.old.at) × (index ≤ length self.old.items)
+            × (length self.old.items ≤ self.old.capacity) }
+        requires room { (index + length src.now ≤ self.old.capacity)
+            × (self.old.capacity < 2 ^ 63) }
+        ensures places { (self.new.at ≡ self.old.at) × (self.new.capacity ≡ self.old.capacity) }
+        ensures counts { (index + length src.now ≤ length self.new.items)
+            × (length self.new.items ≤ self.new.capacity) }
+        ensures items { take (index + length src.now) self.new.items ≡ take index self.old.items
+            ++ src.now }
+    {
+        let last = src.len() - 16;
+        self.write_block(start, index, src, 0);
+        self.write_block(start, index, src, last.min(16));
+        self.write_block(start, index, src, src.len().max(32) - 32);
+        self.write_block(start, index, src, last);
+    }
+
+    // Writes 16 items of a slice, from the one at `from`, after those of the slice before them, which were written.
+    #[inline(always)]
+    fn write_block(&mut self, start: Start<T>, index: usize, src: &[T], from: usize)
+    where
+        T: Copy,
+        requires size { from + 16 ≤ length src.now }
+        requires places { (start.ptr ≡ self.old.at) × (index + from ≤ length self.old.items)
+            × (length self.old.items ≤ self.old.capacity) }
+        requires room { (index + length src.now ≤ self.old.capacity)
+            × (self.old.capacity < 2 ^ 63) }
+        ensures places { (self.new.at ≡ self.old.at) × (self.new.capacity ≡ self.old.capacity) }
+        ensures counts { (index + (from + 16) ≤ length self.new.items)
+            × (length self.new.items ≤ self.new.capacity) }
+        ensures items { take (index + (from + 16)) self.new.items
+            ≡ take (index + from) self.old.items ++ take 16 (drop from src.now) }
+    {
+        let (_, rest) = src.split_at(from);
+        let block = *rest.first_chunk::<16>().unwrap();
+        self.write_each(start, index + from, &block);
     }
 
     // Writes the items of a slice, at least 32 of them: those of whole blocks one by one, and then the last 32.

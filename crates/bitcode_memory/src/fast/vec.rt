@@ -156,18 +156,22 @@ impl<T: Copy> FastVec<T> {
         }
     }
 
-    /// Pushes fewer than 16 items. The caller must have reserved room for 15.
+    /// Pushes at most 64 items. The caller must have reserved room for them, and for at least 15.
     ///
-    /// `others` are written past the end for a moment. Their values do not matter, but the compiler must not know them,
-    /// or it would branch on the count.
+    /// Where there are fewer than 16, `others` are written past the end for a moment. Their values do not matter, but the
+    /// compiler must not know them, or it would branch on the count.
     #[inline(always)]
     pub fn extend_few(&mut self, slice: &[T], others: &[T; 8])
-        requires size { length slice.now < 16 }
-        requires room { 15 ≤ fast_room self.old }
+        requires size { length slice.now ≤ 64 }
+        requires room { (15 ≤ fast_room self.old) × (length slice.now ≤ fast_room self.old) }
         ensures items { fast_items self.new ≡ fast_items self.old ++ slice.now }
         ensures room { fast_room self.old ≡ fast_room self.new + length slice.now }
     {
-        self.places.write_few(self.start, self.len, slice, others);
+        if slice.len() < 16 {
+            self.places.write_few(self.start, self.len, slice, others);
+        } else {
+            self.places.write_blocks(self.start, self.len, slice);
+        }
         self.len += slice.len();
     }
 

@@ -1,4 +1,4 @@
--- Short texts and then long ones are written behind those that were.
+-- Short texts and then longer ones are written behind those that were.
 use Rattle.std.proofs.Common.{◌≡◌, ◌+◌, ◌-◌, length, take, drop, ap, arith}
 use Rattle.std.proofs.lemmas.List.{length-drop, take_all}
 use Rattle.bitcode_memory.specs.Fast.{fast_items}
@@ -15,8 +15,8 @@ loop-done-preserved g c =
     let long = c.in_ok-done-2.field-0 in
     let old = cut (written_lengths c.args.self.now.lengths) (fast_items c.args.self.now.bytes) in
     let now = cut (written_lengths c.loop-done.self.lengths) (fast_items c.loop-done.self.bytes) in
-    let between = cut (written_lengths c.encode_short.new.self.lengths) (fast_items c.encode_short.new.self.bytes) in
-    let new = cut (written_lengths c.encode_long.new.self.lengths) (fast_items c.encode_long.new.self.bytes) in
+    let between = cut (written_lengths c.encode_up_to.new.self.lengths) (fast_items c.encode_up_to.new.self.bytes) in
+    let new = cut (written_lengths c.encode_longer.new.self.lengths) (fast_items c.encode_longer.new.self.bytes) in
     let of = g.W.Part.of c.args.which.now in
     let lists = g.P.Shaped.data.lists in
     let behind_done : take (length items - done) (drop done items) ≡ drop done items =

@@ -6,7 +6,7 @@ use Rattle.bitcode_coder.specs.Cutting.{cut}
 use Rattle.bitcode_coder.specs.Length.{written_lengths}
 use Rattle.bitcode_coder.proofs.StrLemmas.{pieces_pushed}
 use Rattle.bitcode_coder.proofs.PushedTextLemmas.{texts_none, texts_more, whole_more}
-use Rattle.bitcode_coder.proofs.str.encoder.push_short.Goals as goal
+use Rattle.bitcode_coder.proofs.str.encoder.push_up_to.Goals as goal
 
 pub loop-item-init : goal.loop-item-init
 loop-item-init g c = record {
@@ -34,5 +34,5 @@ loop-item-preserved g c =
           (pieces_pushed ns ms now new bytes c.loop-item.invariant.whole c.encode_less_than_255.ensures.written c.extend_few.ensures.items);
       whole = whole_more ns ms now new bytes c.loop-item.invariant.whole c.encode_less_than_255.ensures.written c.extend_few.ensures.items;
       lengths = omega (arith, c.loop-item.invariant.lengths, c.encode_less_than_255.ensures.room);
-      bytes = omega (arith, c.loop-item.invariant.bytes, c.extend_few.ensures.room, c.if-text-ge16.false);
+      bytes = omega (arith, c.loop-item.invariant.bytes, c.extend_few.ensures.room, c.if-text.false);
     }
