@@ -1,10 +1,9 @@
 -- One value that is read straight from the input: of an option or a result its variant and the value that it may have,
 -- of an enum without payloads its variant, of a list its length and its elements.
-use Rattle.std.proofs.Common.{◌≡◌, ℕ, zero, suc, ◌<◌, ◌/◌, ◌%◌, slice_index, List, [], ◌∷◌, ◌++◌, length, map, take, sum, None, refl, sym, ◌∙◌, ap, subst, lit<, arith}
-use Rattle.std.specs.Prelude.{All, Option, Some, IfSome, Result, Ok, Err}
+use Rattle.std.proofs.Common.{◌≡◌, ℕ, zero, suc, ◌<◌, ◌/◌, ◌%◌, slice_index, List, [], ◌∷◌, length, map, take, sum, None, refl, sym, ◌∙◌, ap, subst, lit<, arith}
+use Rattle.std.specs.Prelude.{Option, Some, IfSome, Result, Ok, Err}
 use Rattle.std.specs.declared.alloc.Global.{Global}
 use Rattle.std.proofs.Common.{Vec}
-use Rattle.std.specs.List.{AllZip}
 use Rattle.std.proofs.lemmas.List.Elements.{All-nil, All-cons, All-head}
 use Rattle.std.proofs.Math.Nat.{div-one}
 use Rattle.std.proofs.Math.Seq.{take-length}

@@ -299,6 +299,8 @@ impl<'a, const N: usize, const C_STYLE: bool> View<'a> for VariantDecoder<'a, N,
 /// The contract promises nothing of `None`: it is returned if the read fails.
 ///
 /// ```rust
+/// use bitcode_parts::choices::variant::read_variant;
+///
 /// let mut input: &[u8] = &[5];
 /// assert_eq!(rt; read_variant::<3>(alloc, &mut input), Some(2));
 /// ```
