@@ -99,6 +99,10 @@ def large(program, work):
         (["decode", "--schema", units, "--second", "--limit", "1000"], fewer, 1, "bitcode: too many nodes\n"),
         (["decode", "--schema", deep, "--second"], b"\x01" * 129 + b"\x00", 1,
          f"bitcode: JSON: at {'[0]' * 127}: nested deeper than 127 lists and objects\n"),
+        (["encode", "--schema", deep, "--second"], b"[" * 128 + b"]" * 128, 1,
+         f"bitcode: JSON: at {'[0]' * 127}: nested deeper than 127 lists and objects\n"),
+        (["encode", "--schema", deep, "--second"], b'[[], ["]\\"[", "", ' + b'{"a\\\\": ' * 1000, 1,
+         "bitcode: JSON: at [1][2]" + '.a\\\\' * 125 + ": nested deeper than 127 lists and objects\n"),
     ]
     for words, given, status, said in rows:
         found = call(program, words, given)

@@ -1,32 +1,42 @@
 //! Texts of JSON, and what is said of their values.
 use crate::fault::Fault;
+use crate::json_depth::too_deep;
 use json::{Error, Scratch, Value};
-use std::alloc::Global;
+use std::alloc::{AllocError, Global};
+
+// What `serde_json` says first of a text that nests too deep.
+const TOO_DEEP: &str = "recursion limit exceeded";
 
 /// The value of a text of JSON.
 ///
-/// The error of what is no JSON, or is nested too deep, has the line and the column.
+/// The error of what is no JSON has the line and the column, and that of what nests too deep the path.
 pub fn parse<'a>(
     alloc: Global,
     text: &'a str,
     scratch: &'a mut Scratch,
 ) -> Result<Value<'a>, Fault> {
     match Value::parse(alloc, text, scratch) {
-        Ok(value) => Ok(value),
+        Ok(value) => match too_deep(alloc, text)? {
+            Some(fault) => Err(fault),
+            None => Ok(value),
+        },
         Err(Error::OutOfMemory) => Err(Fault::OutOfMemory),
-        Err(_) => Err(not_json(alloc, text)),
+        Err(_) => Err(not_json(alloc, text)?),
     }
 }
 
-// What is said of a text that is no JSON.
-fn not_json(alloc: Global, text: &str) -> Fault {
-    match serde_json::Value::from_str(alloc, text) {
-        Ok(_) => Fault::new(alloc, "the JSON is nested too deep"),
-        Err(error) => match format!(in alloc; "{error}") {
-            Ok(what) => Fault::new(alloc, what.as_str()),
-            Err(_) => Fault::OutOfMemory,
-        },
+// What is said of a text that is no JSON, or nests too deep.
+fn not_json(alloc: Global, text: &str) -> Result<Fault, AllocError> {
+    let what = match serde_json::Value::from_str(alloc, text) {
+        Ok(_) => String::from_str(alloc, TOO_DEEP)?,
+        Err(error) => format!(in alloc; "{error}")?,
+    };
+    if what.as_str().starts_with(TOO_DEEP) {
+        if let Some(fault) = too_deep(alloc, text)? {
+            return Ok(fault);
+        }
     }
+    Ok(Fault::new(alloc, what.as_str()))
 }
 
 // What a value is, in a message.

@@ -14,6 +14,7 @@ mod format;
 mod formats;
 mod from_json;
 mod from_leaf;
+mod json_depth;
 mod json_leaf;
 mod json_parts;
 mod json_text;
