@@ -134,7 +134,7 @@ PART = """impl$shaped PartEncoder<$whole, $name> for ${simple}Encoder {
 
     ghost of_shape = { λ e. refl };
 
-    ghost surely = { λ e n h. ⟦<$held as PartEncoder<$whole, $numbers>>⟧.surely e.fields n h };
+    ghost surely = { λ e n h. h };
 }
 
 """
@@ -418,15 +418,17 @@ def part_encoder_text(part, number, struct, life, free, lists, types, numbers):
     pairs, held, names = (f"{alias}{number}" for alias in ("Pairs", "Held", "Numbers"))
     of = life if part.lifetime else ""
     still = still_of(part, of)
+    whole_still = struct.name + still_of(struct, life)
+    shape = f"⟦<{pairs}{still} as Shaped>⟧.data.shape"
     row = {
         "simple": part.name,
         "name": name,
         "whole": whole,
         "held": held + still,
         "numbers": names,
-        "shape": f"⟦<{pairs}{still} as Shaped>⟧.data.shape",
-        "surely": f"⟦<{held + still} as Buffer>⟧.surely_overflows e.fields n",
-        "reserve": "self.fields.reserve(n)",
+        "shape": shape,
+        "surely": f"SurelyOverflows {shape} (⟦<{held + still} as Buffer>⟧.columns e.fields) n",
+        "reserve": f"reserve_part::<{whole_still}, {names}, _>(&mut self.fields, n)",
         "shaped": life,
         "free": free,
         "lists": lists,

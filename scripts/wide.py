@@ -118,7 +118,7 @@ def wide_text(struct, own, told):
     used = {"ConvertFrom", "DecoderOfFields", "Error", "HasDecoder", "HasEncoder", "HasField", "InFields", "Nth", "Shaped", "StructEncoder"}
     used |= set() if struct.lifetime else {"DecodeOwned"}
     used |= {"ConvertFromDecoder"} if any("ConvertFromDecoder<" in text for text in texts) else set()
-    used |= {"Part", "PartEncoder", "TupleEncoder", "reserve_as"}
+    used |= {"Part", "PartEncoder", "TupleEncoder", "reserve_as", "reserve_part"}
     used |= {"TupleDecoder"} if any("TupleDecoder<" in text for text in texts) else set()
     imports = {*checker.imports, "std::alloc::Global", NEEDED}
     uses = sorted([f"use bitcode::{{{', '.join(sorted(used))}}};", *(f"use {path};" for path in imports)])

@@ -122,6 +122,7 @@ pub mod own {
     pub use bitcode_shapes::no_variants::{Absent, NoVariants};
     pub use bitcode_structs::checked::{CheckedDecoder, FromChecked};
     pub use bitcode_structs::decoded::{Decoded, FromDecoded, PrivateDecoder};
+    pub use bitcode_structs::parts::reserve_part;
     pub use bitcode_tuples::fields::Fields;
     pub use bitcode_tuples::has_field::{HasField, Nth};
     pub use bitcode_tuples::part_encoder::PartEncoder;

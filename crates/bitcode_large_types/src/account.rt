@@ -9,6 +9,7 @@ use crate::trophy::Trophy;
 use bitcode::coder::{Buffer, ColumnFree, Decoder, Encoder, HoldsData, View};
 use bitcode::own::{
     DecoderOfFields, HasField, InFields, Nth, Part, PartEncoder, StructEncoder, reserve_as,
+    reserve_part,
 };
 use bitcode::{ConvertFrom, Error, HasDecoder, HasEncoder, Shaped, TupleEncoder};
 use std::alloc::Global;
@@ -636,7 +637,8 @@ impl Buffer for AccountPart0Encoder {
 
     ghost capacity = { λ e. ⟦<Held0<'static> as Buffer>⟧.capacity e.fields };
 
-    ghost surely_overflows = { λ e n. ⟦<Held0<'static> as Buffer>⟧.surely_overflows e.fields n };
+    ghost surely_overflows = { λ e n. SurelyOverflows ⟦<Pairs0<'static> as Shaped>⟧.data.shape
+        (⟦<Held0<'static> as Buffer>⟧.columns e.fields) n };
 
     ghost overflows = { λ e n. ⟦<Held0<'static> as Buffer>⟧.overflows e.fields n };
 
@@ -647,7 +649,7 @@ impl Buffer for AccountPart0Encoder {
     }
 
     fn reserve(&mut self, n: usize) -> Result<(), Error> {
-        self.fields.reserve(n)
+        reserve_part::<Account<'static>, Numbers0, _>(&mut self.fields, n)
     }
 
     fn collect_into(&mut self, out: &mut Vec<u8>) -> Result<(), Error> {
@@ -698,8 +700,7 @@ impl<'a> PartEncoder<Account<'a>, AccountPart0<'a>> for AccountPart0Encoder {
 
     ghost of_shape = { λ e. refl };
 
-    ghost surely = { λ e n h. ⟦<Held0<'static> as PartEncoder<Account<'a>, Numbers0>>⟧.surely
-        e.fields n h };
+    ghost surely = { λ e n h. h };
 }
 
 type Pairs1 = ((i64, (Option<i16>, Vec<u8>)), (char, (Vec<String>, Home)));
@@ -721,7 +722,8 @@ impl Buffer for AccountPart1Encoder {
 
     ghost capacity = { λ e. ⟦<Held1 as Buffer>⟧.capacity e.fields };
 
-    ghost surely_overflows = { λ e n. ⟦<Held1 as Buffer>⟧.surely_overflows e.fields n };
+    ghost surely_overflows = { λ e n. SurelyOverflows ⟦<Pairs1 as Shaped>⟧.data.shape
+        (⟦<Held1 as Buffer>⟧.columns e.fields) n };
 
     ghost overflows = { λ e n. ⟦<Held1 as Buffer>⟧.overflows e.fields n };
 
@@ -732,7 +734,7 @@ impl Buffer for AccountPart1Encoder {
     }
 
     fn reserve(&mut self, n: usize) -> Result<(), Error> {
-        self.fields.reserve(n)
+        reserve_part::<Account<'static>, Numbers1, _>(&mut self.fields, n)
     }
 
     fn collect_into(&mut self, out: &mut Vec<u8>) -> Result<(), Error> {
@@ -785,7 +787,7 @@ impl<'a> PartEncoder<Account<'a>, AccountPart1> for AccountPart1Encoder {
 
     ghost of_shape = { λ e. refl };
 
-    ghost surely = { λ e n h. ⟦<Held1 as PartEncoder<Account<'a>, Numbers1>>⟧.surely e.fields n h };
+    ghost surely = { λ e n h. h };
 }
 
 type Pairs2 = (((i32, i32), (Option<Trophy>, u32)), (u16, (u128, u8)));
@@ -807,7 +809,8 @@ impl Buffer for AccountPart2Encoder {
 
     ghost capacity = { λ e. ⟦<Held2 as Buffer>⟧.capacity e.fields };
 
-    ghost surely_overflows = { λ e n. ⟦<Held2 as Buffer>⟧.surely_overflows e.fields n };
+    ghost surely_overflows = { λ e n. SurelyOverflows ⟦<Pairs2 as Shaped>⟧.data.shape
+        (⟦<Held2 as Buffer>⟧.columns e.fields) n };
 
     ghost overflows = { λ e n. ⟦<Held2 as Buffer>⟧.overflows e.fields n };
 
@@ -818,7 +821,7 @@ impl Buffer for AccountPart2Encoder {
     }
 
     fn reserve(&mut self, n: usize) -> Result<(), Error> {
-        self.fields.reserve(n)
+        reserve_part::<Account<'static>, Numbers2, _>(&mut self.fields, n)
     }
 
     fn collect_into(&mut self, out: &mut Vec<u8>) -> Result<(), Error> {
@@ -871,7 +874,7 @@ impl<'a> PartEncoder<Account<'a>, AccountPart2> for AccountPart2Encoder {
 
     ghost of_shape = { λ e. refl };
 
-    ghost surely = { λ e n h. ⟦<Held2 as PartEncoder<Account<'a>, Numbers2>>⟧.surely e.fields n h };
+    ghost surely = { λ e n h. h };
 }
 
 type Fields = TupleEncoder<

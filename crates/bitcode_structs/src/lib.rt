@@ -1,5 +1,6 @@
-//! What structs with private fields, or with a constructor that checks them, need.
+//! What structs with private fields, with a constructor that checks them, or with many fields need.
 #![tactic(auto)]
 
 pub mod checked;
 pub mod decoded;
+pub mod parts;
