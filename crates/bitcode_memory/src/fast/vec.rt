@@ -158,8 +158,8 @@ impl<T: Copy> FastVec<T> {
 
     /// Pushes at most 64 items. The caller must have reserved room for them, and for at least 15.
     ///
-    /// Where there are fewer than 16, `others` are written past the end for a moment. Their values do not matter, but the
-    /// compiler must not know them, or it would branch on the count.
+    /// Where there are fewer than 16, `others` are written past the end for a moment. Their values do not matter, but
+    /// the compiler must not know them, or it would branch on the count.
     #[inline(always)]
     pub fn extend_few(&mut self, slice: &[T], others: &[T; 8])
         requires size { length slice.now ≤ 64 }
