@@ -25,8 +25,8 @@ use std::marker::PhantomData;
 /// [`Nth`] names one field, which has the encoder of its type. A pair names the fields of both, and has the pair of
 /// their encoders. `()` names none.
 ///
-/// Its ghost members repeat those of `Buffer`, which is no supertrait: the toolchain would pass it once more for each level
-/// of pairs. [`InFields`](crate::struct_encoder::InFields) states that they are the same.
+/// Its ghost members repeat those of `Buffer`, which is no supertrait: the toolchain would pass it once more for each
+/// level of pairs. [`InFields`](crate::struct_encoder::InFields) states that they are the same.
 pub trait PartEncoder<T, K> {
     // the shape of these fields, in nested pairs
     ghost shape: { Shape };
