@@ -84,8 +84,8 @@ fn is_escaped(part: &str) -> bool {
     part.len().saturating_sub(before.len()) % 2 == 1
 }
 
-/// The fault of a text of JSON that nests deeper than 127 lists and objects, with the path to what does. Of a text that
-/// is no JSON, it may be any place or none.
+/// The fault of a text of JSON that nests deeper than 127 lists and objects, with the path to what does. A text that is
+/// no JSON may have one, too.
 pub fn too_deep(alloc: Global, text: &str) -> Result<Option<Fault>, AllocError> {
     let mut walk = Walk {
         open: Vec::new(alloc),

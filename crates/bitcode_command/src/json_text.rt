@@ -2,41 +2,35 @@
 use crate::fault::Fault;
 use crate::json_depth::too_deep;
 use json::{Error, Scratch, Value};
-use std::alloc::{AllocError, Global};
-
-// What `serde_json` says first of a text that nests too deep.
-const TOO_DEEP: &str = "recursion limit exceeded";
+use std::alloc::Global;
 
 /// The value of a text of JSON.
 ///
-/// The error of what is no JSON has the line and the column, and that of what nests too deep the path.
+/// The error of what nests too deep has the path, and that of what is no JSON the line and the column.
 pub fn parse<'a>(
     alloc: Global,
     text: &'a str,
     scratch: &'a mut Scratch,
 ) -> Result<Value<'a>, Fault> {
+    if let Some(fault) = too_deep(alloc, text)? {
+        return Err(fault);
+    }
     match Value::parse(alloc, text, scratch) {
-        Ok(value) => match too_deep(alloc, text)? {
-            Some(fault) => Err(fault),
-            None => Ok(value),
-        },
+        Ok(value) => Ok(value),
         Err(Error::OutOfMemory) => Err(Fault::OutOfMemory),
-        Err(_) => Err(not_json(alloc, text)?),
+        Err(_) => Err(not_json(alloc, text)),
     }
 }
 
-// What is said of a text that is no JSON, or nests too deep.
-fn not_json(alloc: Global, text: &str) -> Result<Fault, AllocError> {
-    let what = match serde_json::Value::from_str(alloc, text) {
-        Ok(_) => String::from_str(alloc, TOO_DEEP)?,
-        Err(error) => format!(in alloc; "{error}")?,
-    };
-    if what.as_str().starts_with(TOO_DEEP) {
-        if let Some(fault) = too_deep(alloc, text)? {
-            return Ok(fault);
-        }
+// What is said of a text that is no JSON.
+fn not_json(alloc: Global, text: &str) -> Fault {
+    match serde_json::Value::from_str(alloc, text) {
+        Ok(_) => Fault::new(alloc, "invalid JSON"),
+        Err(error) => match format!(in alloc; "{error}") {
+            Ok(what) => Fault::new(alloc, what.as_str()),
+            Err(_) => Fault::OutOfMemory,
+        },
     }
-    Ok(Fault::new(alloc, what.as_str()))
 }
 
 // What a value is, in a message.
