@@ -7,38 +7,44 @@ const MOST_NESTED: usize = 127;
 
 /// A list or an object that the walk is in.
 #[derive(Clone, Copy)]
-enum Open<'a> {
+enum Open {
     /// The number of the element.
     List(usize),
-    /// The name of the member.
-    Object(&'a str),
+    /// Where the name of the member begins and ends.
+    Object(usize, usize),
 }
 
 /// A walk through a text of JSON.
 #[derive(Drop)]
-struct Walk<'a> {
-    open: Vec<Open<'a>>,
-    /// The last text between quotes.
-    name: &'a str,
+struct Walk {
+    open: Vec<Open>,
+    /// Where the text between quotes begins that the walk is in.
+    text: Option<usize>,
+    /// Whether a backslash stands before the next byte of that text.
+    is_escaped: bool,
+    /// Where the last text between quotes begins and ends.
+    last: (usize, usize),
 }
 
-impl<'a> Walk<'a> {
-    // Passes what stands between two texts. Returns whether it nests too deep.
-    fn pass(&mut self, between: &str) -> Result<bool, AllocError> {
-        for byte in between.as_bytes() {
-            self.step(*byte)?;
-            if self.open.len() > MOST_NESTED {
-                return Ok(true);
-            }
+impl Walk {
+    // Passes a byte of a text that began there.
+    fn pass_in_text(&mut self, from: usize, at: usize, byte: u8) {
+        if self.is_escaped {
+            self.is_escaped = false;
+        } else if byte == b'\\' {
+            self.is_escaped = true;
+        } else if byte == b'"' {
+            self.last = (from, at);
+            self.text = None;
         }
-        Ok(false)
     }
 
-    // Passes a byte outside texts.
-    fn step(&mut self, byte: u8) -> Result<(), AllocError> {
+    // Passes a byte between texts.
+    fn pass_between(&mut self, at: usize, byte: u8) -> Result<(), AllocError> {
         match byte {
+            b'"' => self.text = Some(at.saturating_add(1)),
             b'[' => self.open.push(Open::List(0))?,
-            b'{' => self.open.push(Open::Object(""))?,
+            b'{' => self.open.push(Open::Object(0, 0))?,
             b']' | b'}' => {
                 let _ = self.open.pop();
             }
@@ -58,19 +64,22 @@ impl<'a> Walk<'a> {
 
     // Gives the member of an object its name.
     fn named(&mut self) {
-        let name = self.name;
-        if let Some(Open::Object(member)) = self.open.last_mut() {
-            *member = name;
+        let (begin, end) = self.last;
+        if let Some(open) = self.open.last_mut() {
+            *open = Open::Object(begin, end);
         }
     }
 
     // The path to the innermost list or object.
-    fn path(&self, alloc: Global) -> Result<String, AllocError> {
+    fn path(&self, alloc: Global, text: &str) -> Result<String, AllocError> {
         let mut path = String::new(alloc);
         for open in self.open.iter().take(MOST_NESTED) {
-            let step = match open {
+            let step = match *open {
                 Open::List(index) => format!(in alloc; "[{index}]")?,
-                Open::Object(name) => format!(in alloc; ".{name}")?,
+                Open::Object(begin, end) => {
+                    let name = text.get(begin..end).unwrap_or("");
+                    format!(in alloc; ".{name}")?
+                }
             };
             path.push_str(&step)?;
         }
@@ -78,30 +87,24 @@ impl<'a> Walk<'a> {
     }
 }
 
-// Whether the quote behind this part of a text belongs to the text: an odd number of backslashes stands before it.
-fn is_escaped(part: &str) -> bool {
-    let before = part.trim_end_matches('\\');
-    part.len().saturating_sub(before.len()) % 2 == 1
-}
-
 /// The fault of a text of JSON that nests deeper than 127 lists and objects, with the path to what does. A text that is
 /// no JSON may have one, too.
 pub fn too_deep(alloc: Global, text: &str) -> Result<Option<Fault>, AllocError> {
     let mut walk = Walk {
         open: Vec::new(alloc),
-        name: "",
+        text: None,
+        is_escaped: false,
+        last: (0, 0),
     };
-    let mut is_text = false;
-    for part in text.split('"') {
-        if is_text {
-            walk.name = part;
-            is_text = is_escaped(part);
-        } else if walk.pass(part)? {
-            let path = walk.path(alloc)?;
+    for (at, byte) in text.as_bytes().iter().enumerate() {
+        match walk.text {
+            Some(from) => walk.pass_in_text(from, at, *byte),
+            None => walk.pass_between(at, *byte)?,
+        }
+        if walk.open.len() > MOST_NESTED {
+            let path = walk.path(alloc, text)?;
             let what = String::from_str(alloc, "nested deeper than 127 lists and objects")?;
             return Ok(Some(Fault::At { path, what }));
-        } else {
-            is_text = true;
         }
     }
     Ok(None)
