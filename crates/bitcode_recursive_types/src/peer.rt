@@ -1,5 +1,6 @@
 //! `Peer` in the second format. What is below the declarations was written by `scripts/second_format`.
 
+use arrayvec::ArrayVec;
 use bitcode_serde_types::written::{
     Budget, DeserializeAs, DeserializeFields, Error, Reader, SerializeAs, Writer, read_tuple,
     write_tuple,
@@ -8,7 +9,9 @@ use std::alloc::Global;
 use std::boxed::BoxedSlice;
 use std::collections::VecDeque;
 use std::net::{IpAddr, SocketAddrV4};
+use std::num::NonZeroU16;
 use std::rc::RcStr;
+use std::time::Duration;
 
 /// A host, as a server knows it.
 #[derive(Drop)]
@@ -19,6 +22,9 @@ pub struct Peer {
     pub waiting: VecDeque<u16>,
     pub names: BoxedSlice<String>,
     pub domain: RcStr,
+    pub weight: NonZeroU16,
+    pub seen: Duration,
+    pub route: ArrayVec<u8, 4>,
 }
 
 impl SerializeAs for Peer {
@@ -38,11 +44,20 @@ impl SerializeAs for Peer {
                     &self.listens,
                     (
                         &self.key,
-                        (&self.waiting, (&self.names, (&self.domain, ()))),
+                        (
+                            &self.waiting,
+                            (
+                                &self.names,
+                                (
+                                    &self.domain,
+                                    (&self.weight, (&self.seen, (&self.route, ()))),
+                                ),
+                            ),
+                        ),
                     ),
                 ),
             ),
-            6,
+            9,
             writer,
             left,
             place,
@@ -56,7 +71,16 @@ impl<'a> DeserializeAs<'a> for Peer {
             IpAddr,
             (
                 SocketAddrV4,
-                ([u8; 4], (VecDeque<u16>, (BoxedSlice<String>, (RcStr, ())))),
+                (
+                    [u8; 4],
+                    (
+                        VecDeque<u16>,
+                        (
+                            BoxedSlice<String>,
+                            (RcStr, (NonZeroU16, (Duration, (ArrayVec<u8, 4>, ())))),
+                        ),
+                    ),
+                ),
             ),
         ) as DeserializeFields<'a>>::are_free()
     }
@@ -72,10 +96,22 @@ impl<'a> DeserializeAs<'a> for Peer {
             IpAddr,
             (
                 SocketAddrV4,
-                ([u8; 4], (VecDeque<u16>, (BoxedSlice<String>, (RcStr, ())))),
+                (
+                    [u8; 4],
+                    (
+                        VecDeque<u16>,
+                        (
+                            BoxedSlice<String>,
+                            (RcStr, (NonZeroU16, (Duration, (ArrayVec<u8, 4>, ())))),
+                        ),
+                    ),
+                ),
             ),
-        ) = read_tuple(alloc, reader, budget, left, place, 6)?;
-        let (address, (listens, (key, (waiting, (names, (domain, _end)))))) = fields;
+        ) = read_tuple(alloc, reader, budget, left, place, 9)?;
+        let (
+            address,
+            (listens, (key, (waiting, (names, (domain, (weight, (seen, (route, _end)))))))),
+        ) = fields;
         Ok(Peer {
             address,
             listens,
@@ -83,6 +119,9 @@ impl<'a> DeserializeAs<'a> for Peer {
             waiting,
             names,
             domain,
+            weight,
+            seen,
+            route,
         })
     }
 }

@@ -23,6 +23,19 @@ pub struct Lists {
     pub sixteen: (u8, u8, u8, u8, u8, u8, u8, u8, u8, u8, u8, u8, u8, u8, u8, i16),
     pub ends: Range<i64>,
     pub within: RangeInclusive<char>,
+    pub limits: Limits,
+}
+
+/// Types that have fewer values than their nodes, and a heap.
+pub struct Limits {
+    pub few: ArrayVec<u16, 4>,
+    pub short: ArrayString<8>,
+    pub id: Uuid,
+    pub took: Duration,
+    pub heap: BinaryHeap<i32>,
+    pub count: NonZeroU64,
+    pub offset: NonZeroI16,
+    pub size: NonZeroUsize,
 }
 
 /// Texts of each kind besides `String` and `&str`.

@@ -1,0 +1,17 @@
+-- Written by scripts/tables/serde_nonzero.
+-- The integer is not 0.
+use Rattle.std.proofs.Common.{false, [], subst}
+use Rattle.bitcode_coder.specs.Columns.{ints}
+use Rattle.bitcode_coder.specs.Spelling.{natural}
+use Rattle.bitcode_shapes.specs.Shape.{nonzero}
+use Rattle.bitcode_shapes.proofs.CheckedLemmas.{nonzero_unsigned}
+use Rattle.bitcode_serde.specs.Serializing.{Outcome}
+use Rattle.bitcode_serde_types.specs.Checked.{nonzero_natural_tree}
+use Rattle.bitcode_serde_types.proofs.NumberLemmas.{allowed_written}
+use Rattle.bitcode_serde_types.proofs.nonzero.NonZeroU8SerializeAs.write.Goals as goal
+
+pub returns : goal.returns
+returns c =
+    subst (λ n. Outcome c.args.writer.now (nonzero_natural_tree 1) c.args.place (natural n) [] c.write.result c.write.new.writer) c.get.ensures.value
+    (allowed_written (ints 1 false) nonzero c.args.writer.now c.args.place _ [] c.write.result c.write.new.writer
+    (nonzero_unsigned c.get.result c.get.ensures.nonzero) c.write.ensures)
