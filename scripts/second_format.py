@@ -18,7 +18,7 @@ from tokens import Refused, Told
 
 LIBRARY = (
     "bitcode_memory bitcode_columns bitcode_int_columns bitcode_float_columns bitcode_shapes bitcode_coder "
-    "bitcode_ints bitcode_floats bitcode_untyped bitcode_serde bitcode_serde_types arrayvec uuid"
+    "bitcode_ints bitcode_floats bitcode_untyped bitcode_serde bitcode_serde_types"
 )
 
 # ---- types
@@ -33,7 +33,6 @@ LEAVES = {
     "f64": ("(float_tree binary64)", "(λ x. number (float_number binary64 x))"),
     "Ordering": ("ordering_tree", "ordering_datum"),
     "Duration": ("duration_tree", "duration_datum"),
-    "Uuid": ("uuid_tree", "(λ u. list (data_of (map natural u)))"),
 }
 LEAVES |= {name: ("text_tree", f"(λ s. text ({word} s))") for name, word in TEXTS.items() if name != "CowStr"}
 LEAVES |= {name: (f"(natural_tree {width})", "natural") for name, width in UNSIGNED.items()}
@@ -44,7 +43,7 @@ LEAVES |= {
     for name, width in names.items()
 }
 SOUND = {"bool": "tt", "char": "width_4", "String": "tt", "f32": "tt", "f64": "tt", "Ordering": "(tt, (tt, (tt, tt)))"}
-SOUND |= {"Duration": "(width_8, (width_4, tt))", "Uuid": "width_1"}
+SOUND |= {"Duration": "(width_8, (width_4, tt))"}
 SOUND |= {name: "tt" for name in TEXTS}
 SOUND |= {name: f"width_{width}" for name, width in (UNSIGNED | SIGNED).items()}
 SOUND |= {f"NonZero{name.capitalize()}": f"width_{width}" for name, width in (UNSIGNED | SIGNED).items()}
@@ -165,16 +164,6 @@ def is_cow(type_):
 def is_list(type_):
     """Whether it is a list, other than a `Vec`."""
     return any(inner_of(type_, name) for name in LISTS)
-
-
-def is_limited(type_, name, types):
-    """Whether it is this type of so many others and a greatest length."""
-    return (
-        type_.kind == "path"
-        and type_.name == name
-        and len(type_.parts) == types + 1
-        and type_.parts[-1].kind == "number"
-    )
 
 
 def is_range(type_):
@@ -391,12 +380,7 @@ def tree_of(type_, left):
     if type_.kind == "array":
         return f"(array_tree {length_of(type_)} {tree_of(type_.parts[0], left)})"
     if is_list(type_):
-        tree = f"(seq_tree {tree_of(type_.parts[0], left)})"
-        return f"(noted_tree any_order {tree})" if type_.name == "BinaryHeap" else tree
-    if is_limited(type_, "ArrayString", 0):
-        return f"(noted_tree (at_most {length_of(type_.parts[0])}) text_tree)"
-    if is_limited(type_, "ArrayVec", 1):
-        return f"(noted_tree (at_most {length_of(type_.parts[1])}) (seq_tree {tree_of(type_.parts[0], left)}))"
+        return f"(seq_tree {tree_of(type_.parts[0], left)})"
     if is_address(type_):
         return tree_of(written_as(type_), left)
     if is_range(type_):
@@ -444,8 +428,6 @@ def datum_of(type_):
         return LEAVES[type_.name][1]
     if is_cow(type_):
         return f"(λ s. text ({TEXTS['CowStr']} s))"
-    if is_limited(type_, "ArrayString", 0):
-        return "(λ s. text s.bytes)"
     if inner_of(type_, "PhantomData"):
         return "(λ m. unit)"
     if type_.kind == "array":
@@ -466,8 +448,6 @@ def datum_of(type_):
     inner = datum_of(type_.parts[0])
     if type_.name in HOLDERS:
         return f"(λ b. {applied(inner, HOLDERS[type_.name])})"
-    if type_.name == "ArrayVec":
-        return f"(λ v. list (data_of (map {inner} v.items)))"
     return {"Vec": f"(λ v. list (data_of (map {inner} v.items)))", "Option": f"(option_datum {inner})"}[type_.name]
 
 
@@ -480,7 +460,7 @@ def sound_of(type_, left):
         return sounds([sound_of(part, left) for part in type_.parts])
     if is_address(type_):
         return sound_of(written_as(type_), left)
-    if is_cow(type_) or inner_of(type_, "PhantomData") or is_limited(type_, "ArrayString", 0):
+    if is_cow(type_) or inner_of(type_, "PhantomData"):
         return "tt"
     if type_.kind == "array":
         inner = type_.parts[0]

@@ -18,7 +18,6 @@ LISTS = {
     "BoxedSlice": "(boxed_slice_items l)",
     "RcSlice": "(rc_slice_items l)",
     "ArcSlice": "(arc_slice_items l)",
-    "BinaryHeap": "(heap_items l)",
 }
 
 # the integers that are not 0, with the words for them as integers
@@ -40,7 +39,6 @@ ADDRESSES = {
 # the words of these types, by their modules
 WORDS_OF_STD = [
     ("std.specs.Arc", "arc_value arc_slice_items arc_str_bytes"),
-    ("std.specs.BinaryHeap", "heap_items"),
     ("std.specs.Box", "boxed_slice_items boxed_str_bytes"),
     ("std.specs.Cow", "cow_str_bytes"),
     ("std.specs.Int.NonZero", " ".join(NONZERO.values())),
@@ -51,18 +49,17 @@ WORDS_OF_STD = [
     ("std.specs.VecDeque", "deque_items"),
     ("bitcode_shapes.specs.Addresses", "ip_family socket_family"),
     ("bitcode_serde_types.specs.Arrays", "array_tree array_datum repeated_sound repeated_plain"),
-    ("bitcode_serde_types.specs.Checked", "nonzero_natural_tree nonzero_integer_tree uuid_tree"),
+    ("bitcode_serde_types.specs.Checked", "nonzero_natural_tree nonzero_integer_tree"),
     ("bitcode_serde_types.specs.Durations", "duration_tree duration_datum"),
     ("bitcode_serde_types.specs.Orderings", "ordering_tree ordering_datum"),
 ]
 
 # where code gets the types from
 TYPES_OF_STD = [
-    ("arrayvec", "ArrayString ArrayVec"),
     ("std::borrow", "CowStr"),
     ("std::boxed", "BoxedSlice BoxedStr"),
     ("std::cmp", "Ordering"),
-    ("std::collections", "BTreeMap HashMap BTreeSet BinaryHeap HashSet LinkedList VecDeque"),
+    ("std::collections", "BTreeMap HashMap BTreeSet HashSet LinkedList VecDeque"),
     ("std::marker", "PhantomData"),
     ("std::net", "IpAddr Ipv4Addr Ipv6Addr SocketAddr SocketAddrV4 SocketAddrV6"),
     ("std::num", " ".join([*NONZERO, "Saturating Wrapping"])),
@@ -70,16 +67,19 @@ TYPES_OF_STD = [
     ("std::rc", "Rc RcSlice RcStr"),
     ("std::sync", "Arc ArcSlice ArcStr"),
     ("std::time", "Duration"),
-    ("uuid", "Uuid"),
 ]
 
 # what to write in the place of types that have no impls
 OTHERS = {
+    "ArrayString": "write `String`",
+    "ArrayVec": "write `Vec<T>`",
     "BTreeMap": "write `Vec<(K, V)>`",
     "BTreeSet": "write `Vec<T>`",
+    "BinaryHeap": "write `Vec<T>`",
     "CowStr": "write `CowStr<'a>`",
     "HashMap": "write `Vec<(K, V)>`",
     "HashSet": "write `Vec<T>`",
+    "Uuid": "write `u128`",
 }
 
 

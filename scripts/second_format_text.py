@@ -38,7 +38,7 @@ def used(groups, text):
 WORDS = (
     "Datum unit number text list tuple choice no_data datum_and data_of float_number width_1 width_2 width_4 width_8 "
     "width_16 natural truth column_free ShapeTree ShapeTrees unit_tree never_tree bool_tree natural_tree integer_tree "
-    "float_tree char_tree text_tree seq_tree map_tree option_tree tuple_tree choice_tree no_trees tree_and noted_tree any_order at_most IsSound "
+    "float_tree char_tree text_tree seq_tree map_tree option_tree tuple_tree choice_tree no_trees tree_and IsSound "
     "IsSteady Continues IsRefusalAt option_datum map_datum set_datum ReadsAs HasNoMap result_tree result_datum"
 )
 OF_SPECS = [
@@ -81,7 +81,7 @@ def with_plain(lines, types, mapped):
     """The definitions of these types, with the lemmas that there is no map in them. `mapped` has the words of the types
     with maps."""
     text = "\n".join(lines)
-    if "map_tree" in text or "any_order" in text or any(has_name(f"{word}_tree", text) for word in mapped):
+    if "map_tree" in text or any(has_name(f"{word}_tree", text) for word in mapped):
         mapped.update(one.word for one in types)
         return lines
     is_sound = lambda line: "_sound : " in line and line.endswith(f"({types[0].word}_tree left)")

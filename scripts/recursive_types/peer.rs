@@ -8,5 +8,4 @@ pub struct Peer {
     pub domain: RcStr,
     pub weight: NonZeroU16,
     pub seen: Duration,
-    pub route: ArrayVec<u8, 4>,
 }

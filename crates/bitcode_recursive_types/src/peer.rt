@@ -1,6 +1,5 @@
 //! `Peer` in the second format. What is below the declarations was written by `scripts/second_format`.
 
-use arrayvec::ArrayVec;
 use bitcode_serde_types::written::{
     Budget, DeserializeAs, DeserializeFields, Error, Reader, SerializeAs, Writer, read_tuple,
     write_tuple,
@@ -24,7 +23,6 @@ pub struct Peer {
     pub domain: RcStr,
     pub weight: NonZeroU16,
     pub seen: Duration,
-    pub route: ArrayVec<u8, 4>,
 }
 
 impl SerializeAs for Peer {
@@ -48,16 +46,13 @@ impl SerializeAs for Peer {
                             &self.waiting,
                             (
                                 &self.names,
-                                (
-                                    &self.domain,
-                                    (&self.weight, (&self.seen, (&self.route, ()))),
-                                ),
+                                (&self.domain, (&self.weight, (&self.seen, ()))),
                             ),
                         ),
                     ),
                 ),
             ),
-            9,
+            8,
             writer,
             left,
             place,
@@ -75,10 +70,7 @@ impl<'a> DeserializeAs<'a> for Peer {
                     [u8; 4],
                     (
                         VecDeque<u16>,
-                        (
-                            BoxedSlice<String>,
-                            (RcStr, (NonZeroU16, (Duration, (ArrayVec<u8, 4>, ())))),
-                        ),
+                        (BoxedSlice<String>, (RcStr, (NonZeroU16, (Duration, ())))),
                     ),
                 ),
             ),
@@ -100,18 +92,13 @@ impl<'a> DeserializeAs<'a> for Peer {
                     [u8; 4],
                     (
                         VecDeque<u16>,
-                        (
-                            BoxedSlice<String>,
-                            (RcStr, (NonZeroU16, (Duration, (ArrayVec<u8, 4>, ())))),
-                        ),
+                        (BoxedSlice<String>, (RcStr, (NonZeroU16, (Duration, ())))),
                     ),
                 ),
             ),
-        ) = read_tuple(alloc, reader, budget, left, place, 9)?;
-        let (
-            address,
-            (listens, (key, (waiting, (names, (domain, (weight, (seen, (route, _end)))))))),
-        ) = fields;
+        ) = read_tuple(alloc, reader, budget, left, place, 8)?;
+        let (address, (listens, (key, (waiting, (names, (domain, (weight, (seen, _end)))))))) =
+            fields;
         Ok(Peer {
             address,
             listens,
@@ -121,7 +108,6 @@ impl<'a> DeserializeAs<'a> for Peer {
             domain,
             weight,
             seen,
-            route,
         })
     }
 }

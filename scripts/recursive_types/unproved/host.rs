@@ -26,13 +26,9 @@ pub struct Lists {
     pub limits: Limits,
 }
 
-/// Types that have fewer values than their nodes, and a heap.
+/// Types that have fewer values than their nodes.
 pub struct Limits {
-    pub few: ArrayVec<u16, 4>,
-    pub short: ArrayString<8>,
-    pub id: Uuid,
     pub took: Duration,
-    pub heap: BinaryHeap<i32>,
     pub count: NonZeroU64,
     pub offset: NonZeroI16,
     pub size: NonZeroUsize,
