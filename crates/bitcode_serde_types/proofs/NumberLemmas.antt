@@ -1,16 +1,20 @@
 -- Types that allow only some of the numbers of an integer: written and read as it, and then judged.
-use Rattle.std.proofs.Common.{◌≡◌, ℕ, pos, ◌<◌, List, sym, subst, arith}
+use Rattle.std.proofs.Common.{◌≡◌, ℕ, pos, ◌+◌, ◌*◌, ◌/◌, ◌%◌, ◌<◌, List, [], ap₂, sym, subst, arith}
 use Rattle.std.specs.Prelude.{Result, Ok, Err}
+use Rattle.std.specs.declared.time.Duration.{Duration}
+use Rattle.std.specs.Duration.{as_nanos}
 use Rattle.std.proofs.lemmas.Int.{ints}
 use Rattle.bitcode_memory.specs.declared.error.Error.{Error}
 use Rattle.bitcode_memory.specs.declared.error.Reason.{Reason}
 use Rattle.bitcode_shapes.specs.Checked.{below_second}
-use Rattle.bitcode_shapes.specs.Datum.{Datum, number_in}
+use Rattle.bitcode_shapes.specs.Datum.{Datum, number_in, pair}
+use Rattle.bitcode_shapes.specs.Durations.{seconds_and_nanos}
 use Rattle.bitcode_shapes.specs.Shape.{Allowed, any_number, IsAllowed}
 use Rattle.bitcode_coder.specs.Columns.{Kind}
+use Rattle.bitcode_coder.specs.Spelling.{natural}
 use Rattle.bitcode_untyped.specs.Nodes.{node_count}
 use Rattle.bitcode_untyped.specs.Reads.{ReadsNoDatum}
-use Rattle.bitcode_untyped.specs.ShapeTree.{leaf_tree}
+use Rattle.bitcode_untyped.specs.ShapeTree.{leaf_tree, natural_tree, tuple_tree, tree_and, no_trees}
 use Rattle.bitcode_untyped.proofs.ReadLemmas.{one_datum_read}
 use Rattle.bitcode_serde.specs.Budget.{spend}
 use Rattle.bitcode_serde.specs.ReadingValues.{HasNone, ReadsAt}
@@ -18,6 +22,7 @@ use Rattle.bitcode_serde.specs.Serializing.{Outcome}
 use Rattle.bitcode_serde.specs.declared.budget.Budget.{Budget}
 use Rattle.bitcode_serde.specs.declared.reader.Reader.{Reader}
 use Rattle.bitcode_serde.specs.declared.writer.state.Writer.{Writer}
+use Rattle.bitcode_serde_types.specs.Durations.{duration_tree, duration_datum}
 use Rattle.bitcode_serde_types.specs.ReadingAs.{ReadsAs}
 use Rattle.bitcode_serde_types.specs.Refusals.{IsReasonOf, IsRefusalAt}
 use Rattle.bitcode_serde_types.proofs.KeptLemmas.{one_kept}
@@ -64,3 +69,32 @@ below_a_second n h = (omega arith, omega (arith, ints, h))
 
 pub is_below_second : (n : ℕ) → IsAllowed below_second (pos n) → n < 1000000000
 is_below_second n h = let below = h.1 in omega (arith, ints, below)
+
+-- ---- durations
+
+pub duration_written : {A : Type 0} (old : Writer) (n seconds nanos : ℕ) (t : Duration) (r : Result A Error) (new : Writer) → seconds ≡ (seconds_and_nanos t).0
+    → nanos ≡ (seconds_and_nanos t).1 → nanos < 1000000000
+    → Outcome old (tuple_tree (tree_and (natural_tree 8) (tree_and (natural_tree 4) no_trees))) n (pair (natural seconds) (natural nanos)) [] r new
+    → Outcome old duration_tree n (duration_datum t) [] r new
+duration_written old n seconds nanos t r new whole left below o =
+    subst (λ s. Outcome old duration_tree n (pair (natural s) (natural (seconds_and_nanos t).1)) [] r new) whole
+    (subst (λ m. Outcome old duration_tree n (pair (natural seconds) (natural m)) [] r new) left (judged r o))
+  where
+    judged : (q : Result A Error)
+        → Outcome old (tuple_tree (tree_and (natural_tree 8) (tree_and (natural_tree 4) no_trees))) n (pair (natural seconds) (natural nanos)) [] q new
+        → Outcome old duration_tree n (pair (natural seconds) (natural nanos)) [] q new
+    judged (Ok a) k = record {
+      written = k.written;
+      of_tree = (k.of_tree.0, (k.of_tree.1.0, ((k.of_tree.1.1.0.0, below_a_second nanos below), tt)));
+      whole = k.whole;
+      refused = tt;
+    }
+    judged (Err e) k = record { written = tt; of_tree = tt; whole = tt; refused = k.refused }
+
+-- the seconds and the nanoseconds that a duration is made of
+pub duration_made : (t : Duration) (seconds nanos : ℕ) → as_nanos t ≡ seconds * 1000000000 + nanos → nanos < 1000000000
+    → duration_datum t ≡ pair (natural seconds) (natural nanos)
+duration_made t seconds nanos made below =
+    let whole : as_nanos t / 1000000000 ≡ seconds = omega (arith, made) in
+    let left : as_nanos t % 1000000000 ≡ nanos = omega (arith, made) in
+    ap₂ (λ s m. pair (natural s) (natural m)) whole left

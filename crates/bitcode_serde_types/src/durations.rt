@@ -60,12 +60,13 @@ impl SerializeAs for Duration {
     ghost sound = { duration_sound };
 
     fn write(&self, writer: &mut Writer, left: usize, place: usize) -> Result<(), Error> {
-        match Nanosecond::new(self.subsec_nanos()) {
-            Some(nanos) => {
-                write_tuple(&(&self.as_secs(), (&nanos, ())), 2, writer, left, place)
-            }
-            None => unreachable!(),
-        }
+        write_tuple(
+            &(&self.as_secs(), (&self.subsec_nanos(), ())),
+            2,
+            writer,
+            left,
+            place,
+        )
     }
 }
 
