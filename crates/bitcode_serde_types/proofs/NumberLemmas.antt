@@ -65,7 +65,7 @@ allowed_kept f kind allowed place old new before after t d same one ok taken rea
     (r.0, r.1, record { is = ((r.2.is.0.0, ok), tt); runs = r.2.runs }))
 
 pub below_a_second : (n : ℕ) → n < 1000000000 → IsAllowed below_second (pos n)
-below_a_second n h = (omega arith, omega (arith, ints, h))
+below_a_second n h = (omega (arith, ints), omega (arith, ints, h))
 
 pub is_below_second : (n : ℕ) → IsAllowed below_second (pos n) → n < 1000000000
 is_below_second n h = let below = h.1 in omega (arith, ints, below)

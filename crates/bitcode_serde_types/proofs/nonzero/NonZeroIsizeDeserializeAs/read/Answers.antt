@@ -1,6 +1,6 @@
 -- Written by scripts/tables/serde_nonzero.
 -- A number other than 0.
-use Rattle.std.proofs.Common.{true, ap, ℤ, refl, sym, ◌∙◌}
+use Rattle.std.proofs.Common.{rules, ◌≡◌, true, ap, pos, refl, ◌∙◌}
 use Rattle.std.proofs.lemmas.Result.{err_from_is_err_and}
 use Rattle.std.specs.Int.NonZero.{non_zero_isize_get}
 use Rattle.bitcode_coder.specs.Columns.{ints}
@@ -23,13 +23,17 @@ returns-in_err-n-clause-refused c =
 pub returns-in-None-clause-refused : goal.returns-in-None-clause-refused
 returns-in-None-clause-refused c =
     let n = c.in_ok-n.n in
+    let is = c.in-None.ensures in
+    let zero : n ≡ pos 0 = search (rules, is) in
     passed_on (λ e. IsRefusalAt (nonzero_integer_tree 8) c.args.place c.args.reader.now e.reason) c.err.result _ _ c.err.ensures refl
     (refused_number (ints 8 true) nonzero c.args.place c.args.reader.now c.read_number.new.reader _ (number n) _ (datum-I64 n) refl
-    (λ ok. ok c.in-None.ensures) c.in_ok-n.ensures.entry)
+    (λ ok. ok zero) c.in_ok-n.ensures.entry)
 
 pub returns-in-Some-clause-read : goal.returns-in-Some-clause-read
 returns-in-Some-clause-read c =
     let n = c.in_ok-n.n in
+    let is = c.in-Some.ensures in
+    let same : n ≡ non_zero_isize_get c.in-Some.nonzero = search (rules, is) in
     allowed_kept (λ t. number (non_zero_isize_get t)) (ints 8 true) nonzero c.args.place c.args.reader.now c.read_number.new.reader c.args.budget.now
-    c.read_number.new.budget c.in-Some.nonzero _ (datum-I64 n ∙ ap number (sym c.in-Some.ensures)) refl
+    c.read_number.new.budget c.in-Some.nonzero _ (datum-I64 n ∙ ap number same) refl
     (nonzero_signed c.in-Some.nonzero.value c.in-Some.nonzero.ok) c.read_number.ensures.taken c.in_ok-n.ensures.entry
