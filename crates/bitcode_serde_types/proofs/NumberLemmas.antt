@@ -76,7 +76,7 @@ pub duration_written : {A : Type 0} (old : Writer) (n seconds nanos : ℕ) (t : 
     → nanos ≡ (seconds_and_nanos t).1 → nanos < 1000000000
     → Outcome old (tuple_tree (tree_and (natural_tree 8) (tree_and (natural_tree 4) no_trees))) n (pair (natural seconds) (natural nanos)) [] r new
     → Outcome old duration_tree n (duration_datum t) [] r new
-duration_written old n seconds nanos t r new whole left below o =
+duration_written {A = A} old n seconds nanos t r new whole left below o =
     subst (λ s. Outcome old duration_tree n (pair (natural s) (natural (seconds_and_nanos t).1)) [] r new) whole
     (subst (λ m. Outcome old duration_tree n (pair (natural seconds) (natural m)) [] r new) left (judged r o))
   where

@@ -5,13 +5,14 @@ use Rattle.bitcode_coder.specs.Columns.{ints}
 use Rattle.bitcode_shapes.specs.Datum.{number}
 use Rattle.bitcode_shapes.specs.Shape.{nonzero}
 use Rattle.bitcode_shapes.proofs.CheckedLemmas.{nonzero_signed}
+use Rattle.bitcode_untyped.specs.ShapeTree.{integer_tree}
 use Rattle.bitcode_serde.specs.Serializing.{Outcome}
-use Rattle.bitcode_serde_types.specs.Checked.{nonzero_integer_tree}
 use Rattle.bitcode_serde_types.proofs.NumberLemmas.{allowed_written}
 use Rattle.bitcode_serde_types.proofs.nonzero.NonZeroI32SerializeAs.write.Goals as goal
 
 pub returns : goal.returns
 returns c =
-    subst (λ n. Outcome c.args.writer.now (nonzero_integer_tree 4) c.args.place (number n) [] c.write.result c.write.new.writer) c.get.ensures.value
-    (allowed_written (ints 4 true) nonzero c.args.writer.now c.args.place _ [] c.write.result c.write.new.writer
-    (nonzero_signed c.get.result c.get.ensures.nonzero) c.write.ensures)
+    allowed_written (ints 4 true) nonzero c.args.writer.now c.args.place _ [] c.write.result c.write.new.writer
+    (nonzero_signed c.args.self.now.value c.args.self.now.ok)
+    (subst (λ n. Outcome c.args.writer.now (integer_tree 4) c.args.place (number n) [] c.write.result c.write.new.writer) c.get.ensures.value
+    c.write.ensures)
