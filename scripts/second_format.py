@@ -12,7 +12,7 @@ from declarations import Parser, Struct, Type, fields_of
 from known_types import MOST_FIELDS
 from lengths import NUMBER, Sum
 from names import module_of
-from second_format_std import ADDRESSES, LISTS, RANGES, TEXTS, instead_of
+from second_format_std import ADDRESSES, LISTS, NONZERO, RANGES, TEXTS, instead_of
 from structs import QUOTED
 from tokens import Refused, Told
 
@@ -32,13 +32,21 @@ LEAVES = {
     "f32": ("(float_tree binary32)", "(λ x. number (float_number binary32 x))"),
     "f64": ("(float_tree binary64)", "(λ x. number (float_number binary64 x))"),
     "Ordering": ("ordering_tree", "ordering_datum"),
+    "Duration": ("duration_tree", "duration_datum"),
 }
 LEAVES |= {name: ("text_tree", f"(λ s. text ({word} s))") for name, word in TEXTS.items() if name != "CowStr"}
 LEAVES |= {name: (f"(natural_tree {width})", "natural") for name, width in UNSIGNED.items()}
 LEAVES |= {name: (f"(integer_tree {width})", "number") for name, width in SIGNED.items()}
+LEAVES |= {
+    f"NonZero{name.capitalize()}": (f"(nonzero_{tree} {width})", f"(λ n. {datum} ({NONZERO[f'NonZero{name.capitalize()}']} n))")
+    for names, tree, datum in ((UNSIGNED, "natural_tree", "natural"), (SIGNED, "integer_tree", "number"))
+    for name, width in names.items()
+}
 SOUND = {"bool": "tt", "char": "width_4", "String": "tt", "f32": "tt", "f64": "tt", "Ordering": "(tt, (tt, (tt, tt)))"}
+SOUND |= {"Duration": "(width_8, (width_4, tt))"}
 SOUND |= {name: "tt" for name in TEXTS}
 SOUND |= {name: f"width_{width}" for name, width in (UNSIGNED | SIGNED).items()}
+SOUND |= {f"NonZero{name.capitalize()}": f"width_{width}" for name, width in (UNSIGNED | SIGNED).items()}
 
 
 # the maps, with the functions that make them of pairs, and the keys that they may have

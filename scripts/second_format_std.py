@@ -1,7 +1,7 @@
 """The types of the standard library that scripts/second_format knows: what each is in the second format, and the words
 of specs that say so."""
 
-from known_types import INSTEAD, TYPES
+from known_types import INSTEAD, INTEGERS, TYPES
 
 # the texts, with the words for their bytes
 TEXTS = {
@@ -19,6 +19,9 @@ LISTS = {
     "RcSlice": "(rc_slice_items l)",
     "ArcSlice": "(arc_slice_items l)",
 }
+
+# the integers that are not 0, with the words for them as integers
+NONZERO = {f"NonZero{name.capitalize()}": f"non_zero_{name}_get" for name in INTEGERS}
 
 # the ranges, with their ends as terms
 RANGES = {"Range": ["r.start", "r.end"], "RangeInclusive": ["(range_inclusive_start r)", "(range_inclusive_end r)"]}
@@ -38,6 +41,7 @@ WORDS_OF_STD = [
     ("std.specs.Arc", "arc_value arc_slice_items arc_str_bytes"),
     ("std.specs.Box", "boxed_slice_items boxed_str_bytes"),
     ("std.specs.Cow", "cow_str_bytes"),
+    ("std.specs.Int.NonZero", " ".join(NONZERO.values())),
     ("std.specs.Net.Addr", "ipv4_octets ipv6_octets"),
     ("std.specs.Net.Socket", "v4_ip v4_port v6_ip v6_port"),
     ("std.specs.Range", "range_inclusive_start range_inclusive_end"),
@@ -45,6 +49,8 @@ WORDS_OF_STD = [
     ("std.specs.VecDeque", "deque_items"),
     ("bitcode_shapes.specs.Addresses", "ip_family socket_family"),
     ("bitcode_serde_types.specs.Arrays", "array_tree array_datum repeated_sound repeated_plain"),
+    ("bitcode_serde_types.specs.Checked", "nonzero_natural_tree nonzero_integer_tree"),
+    ("bitcode_serde_types.specs.Durations", "duration_tree duration_datum"),
     ("bitcode_serde_types.specs.Orderings", "ordering_tree ordering_datum"),
 ]
 
@@ -56,10 +62,11 @@ TYPES_OF_STD = [
     ("std::collections", "BTreeMap HashMap BTreeSet HashSet LinkedList VecDeque"),
     ("std::marker", "PhantomData"),
     ("std::net", "IpAddr Ipv4Addr Ipv6Addr SocketAddr SocketAddrV4 SocketAddrV6"),
-    ("std::num", "Saturating Wrapping"),
+    ("std::num", " ".join([*NONZERO, "Saturating Wrapping"])),
     ("std::ops", "Range RangeInclusive"),
     ("std::rc", "Rc RcSlice RcStr"),
     ("std::sync", "Arc ArcSlice ArcStr"),
+    ("std::time", "Duration"),
 ]
 
 # what to write in the place of types that have no impls
@@ -70,7 +77,6 @@ OTHERS = {
     "BTreeSet": "write `Vec<T>`",
     "BinaryHeap": "write `Vec<T>`",
     "CowStr": "write `CowStr<'a>`",
-    "Duration": "write its seconds as a `u64`",
     "HashMap": "write `Vec<(K, V)>`",
     "HashSet": "write `Vec<T>`",
     "Uuid": "write `u128`",
@@ -83,8 +89,6 @@ def instead_of(type_):
         return "write a `Vec` or a `BoxedSlice`"
     if type_.kind == "reference":
         return "write the value itself, or `&'a str`"
-    if type_.kind == "path" and type_.name.startswith("NonZero") and type_.name != "NonZero":
-        return f"write `{type_.name.removeprefix('NonZero').lower()}`"
     instead = OTHERS.get(type_.name) or INSTEAD.get(type_.name)
     if not instead and type_.kind == "path" and type_.name not in TYPES:
         return "declare it in this file"

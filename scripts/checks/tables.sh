@@ -5,7 +5,7 @@ cd "$(dirname "$0")/../.." || exit 2
 work=$(mktemp -d)
 trap 'rm -rf "$work"' EXIT
 wrong=0
-for script in checksums integers serde_tuples tuples variants; do
+for script in checksums integers serde_nonzero serde_tuples tuples variants; do
   "scripts/tables/$script" "$work" || exit 2
 done
 

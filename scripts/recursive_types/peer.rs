@@ -6,4 +6,6 @@ pub struct Peer {
     pub waiting: VecDeque<u16>,
     pub names: BoxedSlice<String>,
     pub domain: RcStr,
+    pub weight: NonZeroU16,
+    pub seen: Duration,
 }

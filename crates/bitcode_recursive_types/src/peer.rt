@@ -8,7 +8,9 @@ use std::alloc::Global;
 use std::boxed::BoxedSlice;
 use std::collections::VecDeque;
 use std::net::{IpAddr, SocketAddrV4};
+use std::num::NonZeroU16;
 use std::rc::RcStr;
+use std::time::Duration;
 
 /// A host, as a server knows it.
 #[derive(Drop)]
@@ -19,6 +21,8 @@ pub struct Peer {
     pub waiting: VecDeque<u16>,
     pub names: BoxedSlice<String>,
     pub domain: RcStr,
+    pub weight: NonZeroU16,
+    pub seen: Duration,
 }
 
 impl SerializeAs for Peer {
@@ -38,11 +42,17 @@ impl SerializeAs for Peer {
                     &self.listens,
                     (
                         &self.key,
-                        (&self.waiting, (&self.names, (&self.domain, ()))),
+                        (
+                            &self.waiting,
+                            (
+                                &self.names,
+                                (&self.domain, (&self.weight, (&self.seen, ()))),
+                            ),
+                        ),
                     ),
                 ),
             ),
-            6,
+            8,
             writer,
             left,
             place,
@@ -56,7 +66,13 @@ impl<'a> DeserializeAs<'a> for Peer {
             IpAddr,
             (
                 SocketAddrV4,
-                ([u8; 4], (VecDeque<u16>, (BoxedSlice<String>, (RcStr, ())))),
+                (
+                    [u8; 4],
+                    (
+                        VecDeque<u16>,
+                        (BoxedSlice<String>, (RcStr, (NonZeroU16, (Duration, ())))),
+                    ),
+                ),
             ),
         ) as DeserializeFields<'a>>::are_free()
     }
@@ -72,10 +88,17 @@ impl<'a> DeserializeAs<'a> for Peer {
             IpAddr,
             (
                 SocketAddrV4,
-                ([u8; 4], (VecDeque<u16>, (BoxedSlice<String>, (RcStr, ())))),
+                (
+                    [u8; 4],
+                    (
+                        VecDeque<u16>,
+                        (BoxedSlice<String>, (RcStr, (NonZeroU16, (Duration, ())))),
+                    ),
+                ),
             ),
-        ) = read_tuple(alloc, reader, budget, left, place, 6)?;
-        let (address, (listens, (key, (waiting, (names, (domain, _end)))))) = fields;
+        ) = read_tuple(alloc, reader, budget, left, place, 8)?;
+        let (address, (listens, (key, (waiting, (names, (domain, (weight, (seen, _end)))))))) =
+            fields;
         Ok(Peer {
             address,
             listens,
@@ -83,6 +106,8 @@ impl<'a> DeserializeAs<'a> for Peer {
             waiting,
             names,
             domain,
+            weight,
+            seen,
         })
     }
 }

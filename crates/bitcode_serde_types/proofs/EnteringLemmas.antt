@@ -9,10 +9,10 @@ use Rattle.bitcode_untyped.specs.Walk.{length_kind}
 use Rattle.bitcode_untyped.proofs.ReadLemmas.{seq_over_limit}
 use Rattle.bitcode_serde.specs.Places.{places, place_at}
 use Rattle.bitcode_serde.specs.Reading.{LeadsTelling}
-use Rattle.bitcode_serde.specs.ReadingValues.{IsValueReason, IsRefusalAt}
 use Rattle.bitcode_serde.specs.declared.reader.Reader.{Reader}
 use Rattle.bitcode_serde.proofs.ValueLemmas.{told_at}
 use Rattle.bitcode_serde_types.specs.FieldsWritten.{tree_count}
+use Rattle.bitcode_serde_types.specs.Refusals.{IsReasonOf, IsRefusalAt}
 
 -- there is no variant of an index past the last one
 pub tree_at_past : (ss : ShapeTrees) (i : ℕ) → tree_count ss ≤ i → tree_at ss i ≡ never_tree
@@ -21,7 +21,7 @@ tree_at_past (tree_and s ss) zero h = absurd (omega (arith, h))
 tree_at_past (tree_and s ss) (suc i) h = tree_at_past ss i (omega (arith, h))
 
 -- a list of too many elements without a column
-pub over_limit_refused : (s : ShapeTree) (place n count : ℕ) (old new : Reader) (why : Reason) → column_free s ≡ true → free_limit < n → IsValueReason why
+pub over_limit_refused : (s : ShapeTree) (place n count : ℕ) (old new : Reader) (why : Reason) → column_free s ≡ true → free_limit < n → IsReasonOf (seq_tree s) why
     → LeadsTelling old (place_at (places old.places.below.items) place) length_kind (natural n) new (λ entries. count ≡ total entries)
     → IsRefusalAt (seq_tree s) place old why
 over_limit_refused s place n count old new why free many known leads = (

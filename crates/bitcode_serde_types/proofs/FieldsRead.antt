@@ -1,5 +1,5 @@
 -- Reading the fields of a tuple, one after another.
-use Rattle.std.proofs.Common.{◌≡◌, ℕ, ◌+◌, ◌≤◌, List, [], ◌∷◌, ◌++◌, length, refl, ap, sym, subst, ◌∙◌}
+use Rattle.std.proofs.Common.{◌≡◌, ℕ, ◌+◌, ◌≤◌, List, [], ◌∷◌, ◌++◌, length, inl, inr, refl, ap, sym, subst, ◌∙◌}
 use Rattle.bitcode_memory.specs.declared.error.Reason.{Reason}
 use Rattle.std.proofs.lemmas.List.{append_assoc, append-nil}
 use Rattle.bitcode_shapes.specs.Datum.{Datum, tuple, data_of}
@@ -13,16 +13,18 @@ use Rattle.bitcode_untyped.proofs.ReadLemmas.{FieldsSoFar, no_fields_yet, one_fi
 use Rattle.bitcode_serde.specs.Budget.{spend, IsLeft}
 use Rattle.bitcode_serde.specs.Places.{IsPlace}
 use Rattle.bitcode_serde.specs.Reading.{Stands}
-use Rattle.bitcode_serde.specs.ReadingValues.{IsSteady, Continues, GoesAlong, IsRefusalAt, IsFieldRefusalAt, field_at}
+use Rattle.bitcode_serde.specs.ReadingValues.{IsSteady, Continues, GoesAlong, field_at}
 use Rattle.bitcode_serde.specs.declared.budget.Budget.{Budget}
 use Rattle.bitcode_serde.specs.declared.reader.Reader.{Reader}
 use Rattle.bitcode_serde.proofs.BudgetLemmas.{spend-then, left_before}
-use Rattle.bitcode_serde.proofs.FieldLemmas.{field_inside, field_inside_refused}
+use Rattle.bitcode_serde.proofs.FieldLemmas.{field_inside}
 use Rattle.bitcode_serde.proofs.ValueLemmas.{asked_alike, continues_on, still_there}
 use Rattle.bitcode_serde_types.specs.FieldsWritten.{tree_count}
 use Rattle.bitcode_serde_types.specs.ReadingAs.{ReadsAs, ReadsFieldAs}
+use Rattle.bitcode_serde_types.specs.Refusals.{Refuse, IsRefusalAt, IsFieldRefusalAt}
 use Rattle.bitcode_serde_types.specs.Restates.{RestatesFields}
 use Rattle.bitcode_serde_types.proofs.FieldLemmas.{field_of_count}
+use Rattle.bitcode_serde_types.proofs.RefusalLemmas.{reason_up, field_inside_refused}
 
 -- if the fields of the trees that are left restate others, those from the first on do so
 abbrev AreRestated : ShapeTrees → List Datum → List Datum → ShapeTrees → Type 0
@@ -37,6 +39,7 @@ module _ (trees : ShapeTrees) (place : ℕ) (old : Reader) (before : Budget) whe
     pub read : GoesAlong old place mid (λ p a b. FieldsSoFar (field_place trees p) trees a listing left i b)
     pub taken : after ≡ spend (node_counts (data_of listing)) before
     pub same : IsLeft after → AreRestated trees listing content left
+    pub among : (why : Reason) → Refuse left why → Refuse trees why
 
   pub no_fields_kept : IsSteady old → FieldsKept 0 [] trees old before
   no_fields_kept steady = record {
@@ -45,6 +48,7 @@ module _ (trees : ShapeTrees) (place : ℕ) (old : Reader) (before : Budget) whe
     read = λ p at a st. (a, st, no_fields_yet (field_place trees p) trees a);
     taken = refl;
     same = λ left ds es h. h;
+    among = λ why h. h;
   }
 
   module _ {i : ℕ} {content : List Datum} {s : ShapeTree} {left : ShapeTrees} {mid : Reader} {between : Budget}
@@ -72,11 +76,12 @@ module _ (trees : ShapeTrees) (place : ℕ) (old : Reader) (before : Budget) whe
           subst (λ xs. RestatesFields trees (data_of xs) (data_of ((content ++ datum t ∷ []) ++ es))) (sym (append_assoc k.listing (one.datum ∷ []) ds))
           (subst (λ ys. RestatesFields trees (data_of (k.listing ++ one.datum ∷ ds)) (data_of ys)) (sym (append_assoc content (datum t ∷ []) es))
           (k.same (left_before (node_count one.datum) between (subst IsLeft one.taken h)) (one.datum ∷ ds) (datum t ∷ es) (one.same h, rest)));
+      among = λ why h. k.among why (inr h);
     }
 
     pub field_not_kept : (why : Reason) → IsFieldRefusalAt s place i (tree_count trees) mid why → IsRefusalAt (tuple_tree trees) place old why
     field_not_kept why h = (
-      h.0,
+      reason_up s (tuple_tree trees) why (λ r. k.among why (inl r)) h.0,
       λ other p at a st.
           let g = k.read p at a st in
           let none = h.1 other p (k.continues.kept place p at) g.0 g.1 in

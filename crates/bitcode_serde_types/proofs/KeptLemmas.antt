@@ -22,14 +22,16 @@ use Rattle.bitcode_coder.specs.Spelling.{natural}
 use Rattle.bitcode_serde.specs.Budget.{spend, IsLeft}
 use Rattle.bitcode_serde.specs.Places.{places, place_at}
 use Rattle.bitcode_serde.specs.Reading.{Leads}
-use Rattle.bitcode_serde.specs.ReadingValues.{IsSteady, Continues, Enters, EntersList, ReadsAt, IsRefusalAt, IsListRefusalAt}
+use Rattle.bitcode_serde.specs.ReadingValues.{IsSteady, Continues, Enters, EntersList, ReadsAt}
 use Rattle.bitcode_serde.specs.declared.budget.Budget.{Budget}
 use Rattle.bitcode_serde.specs.declared.budget.Budget.TheVariants.{Endless, Spent}
 use Rattle.bitcode_serde.specs.declared.reader.Reader.{Reader}
 use Rattle.bitcode_serde.proofs.BudgetLemmas.{spend-then, spend-Endless, spend-Spent, left_before}
-use Rattle.bitcode_serde.proofs.ValueLemmas.{led_at, asked_alike, still_there, continues_on, one_more, list_stuck, seq_read_at, choice_read_at, choice_refused}
+use Rattle.bitcode_serde.proofs.ValueLemmas.{led_at, asked_alike, still_there, continues_on, one_more, seq_read_at, choice_read_at}
 use Rattle.bitcode_serde_types.specs.ReadingAs.{KeepsAs, KeepsEachAs, ReadsAs, ReadsEachAs}
+use Rattle.bitcode_serde_types.specs.Refusals.{IsRefusalAt, IsListRefusalAt}
 use Rattle.bitcode_serde_types.specs.Restates.{Restates, RestatesVariant}
+use Rattle.bitcode_serde_types.proofs.RefusalLemmas.{list_stuck, choice_refused}
 
 -- the same content, told otherwise
 pub kept_otherwise : {A B : Type 0} (Is : Datum → Datum → Type 0) (f : A → Datum) (g : B → Datum) (R : Datum → Type 0) (before after : Budget) (a : A) (b : B) → g b ≡ f a

@@ -10,6 +10,8 @@ pub mod KeptLemmas
 pub mod FieldsRead
 pub mod RestOfFields
 pub mod EnteringLemmas
+pub mod RefusalLemmas
+pub mod NumberLemmas
 pub mod RestatesLemmas
 pub mod EntryLemmas
 pub mod PairLemmas

@@ -1,5 +1,5 @@
 -- The pairs of a map, one after another.
-use Rattle.std.proofs.Common.{◌≡◌, ℕ, ◌+◌, ◌≤◌, ◌<◌, false, List, [], ◌∷◌, ◌++◌, length, map, refl, ap, sym, subst, ◌∙◌}
+use Rattle.std.proofs.Common.{◌≡◌, ℕ, ◌+◌, ◌≤◌, ◌<◌, inl, inr, false, List, [], ◌∷◌, ◌++◌, length, map, refl, ap, sym, subst, ◌∙◌}
 use Rattle.bitcode_memory.specs.declared.error.Reason.{Reason}
 use Rattle.bitcode_memory.specs.declared.error.Reason.TheVariants.{OutOfMemory}
 use Rattle.bitcode_shapes.specs.Datum.{Datum, list, pair, data_of}
@@ -7,15 +7,17 @@ use Rattle.bitcode_untyped.specs.Bounds.{column_free}
 use Rattle.bitcode_untyped.specs.Nodes.{node_count, node_counts}
 use Rattle.bitcode_untyped.specs.ShapeTree.{ShapeTree, map_tree}
 use Rattle.bitcode_serde.specs.Budget.{spend, IsLeft}
-use Rattle.bitcode_serde.specs.ReadingValues.{IsSteady, Continues, IsValueReason, IsRefusalAt}
+use Rattle.bitcode_serde.specs.ReadingValues.{IsSteady, Continues}
 use Rattle.bitcode_serde.specs.declared.budget.Budget.{Budget}
 use Rattle.bitcode_serde.specs.declared.reader.Reader.{Reader}
 use Rattle.bitcode_serde.proofs.BudgetLemmas.{spend-then, left_before, pair_taken}
 use Rattle.bitcode_serde.proofs.ValueLemmas.{EntersMap, ReadsPairsAt, asked_alike, still_there, continues_on, one_more_pair, key_stuck, value_stuck, map_read_at, map_stuck_at}
 use Rattle.bitcode_serde_types.specs.Pairs.{ReadsPairsAs, pair_datum, map_datum}
 use Rattle.bitcode_serde_types.specs.ReadingAs.{KeepsEachAs, ReadsAs}
+use Rattle.bitcode_serde_types.specs.Refusals.{IsReasonOf, IsRefusalAt}
 use Rattle.bitcode_serde_types.specs.Restates.{Restates, SameKey, HasNoMap, AreEntriesOf}
 use Rattle.bitcode_serde_types.proofs.KeptLemmas.{keeps_more_as}
+use Rattle.bitcode_serde_types.proofs.RefusalLemmas.{reason_up}
 use Rattle.bitcode_serde_types.proofs.RestatesLemmas.{kept_whole}
 
 module _ {K V : Type 0} (f : K → Datum) (g : V → Datum) (k v : ShapeTree) (keys values : ℕ) where
@@ -61,7 +63,7 @@ module _ {K V : Type 0} (f : K → Datum) (g : V → Datum) (k v : ShapeTree) (k
     module _ (start : Reader) (place n : ℕ) (enters : EntersMap start old place keys values n) (why : Reason) where
       pub key_not_kept : i < n → IsRefusalAt k keys mid why → IsRefusalAt (map_tree k v) place start why
       key_not_kept lt h = (
-        h.0,
+        reason_up k (map_tree k v) why inl h.0,
         λ other. map_stuck_at k v start old place keys values n enters
             (key_stuck k v keys values old mid i so_far.1.listing so_far.0 so_far.1.read n lt (h.1 other)),
       )
@@ -69,7 +71,7 @@ module _ {K V : Type 0} (f : K → Datum) (g : V → Datum) (k v : ShapeTree) (k
       pub value_not_kept : (next : Reader) (first_left value_left : Budget) (x : K) → i < n → Continues mid next → ReadsAs f k keys mid first_left x next value_left
           → IsRefusalAt v values next why → IsRefusalAt (map_tree k v) place start why
       value_not_kept next first_left value_left x lt c first h = (
-        h.0,
+        reason_up v (map_tree k v) why inr h.0,
         λ other. map_stuck_at k v start old place keys values n enters
             (value_stuck k v keys values old mid i so_far.1.listing so_far.0 so_far.1.read n next first.datum lt c first.read (h.1 other)),
       )
@@ -86,7 +88,7 @@ module _ {K V : Type 0} (f : K → Datum) (g : V → Datum) (k v : ShapeTree) (k
 
 -- want of memory
 pub no_memory : (s : ShapeTree) (place : ℕ) (old : Reader) (why : Reason) → why ≡ OutOfMemory → IsRefusalAt s place old why
-no_memory s place old why e = (subst IsValueReason (sym e) tt, λ other. absurd (other e))
+no_memory s place old why e = (subst (IsReasonOf s) (sym e) tt, λ other. absurd (other e))
 
 -- the map has the entries of the pairs
 pub map_kept : {K V M : Type 0} (f : K → Datum) (g : V → Datum) (h : M → Datum) (k v : ShapeTree) (place : ℕ) (old new : Reader) (before after : Budget)

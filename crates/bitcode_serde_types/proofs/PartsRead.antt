@@ -7,7 +7,7 @@ use Rattle.bitcode_untyped.specs.Machine.{State, Takes}
 use Rattle.bitcode_untyped.specs.Nodes.{node_counts}
 use Rattle.bitcode_untyped.specs.Reads.{ReadsFields, ReadsNoFields}
 use Rattle.bitcode_untyped.specs.Runs.{Runs}
-use Rattle.bitcode_untyped.specs.ShapeTree.{ShapeTrees, no_trees, tree_and, AreOf}
+use Rattle.bitcode_untyped.specs.ShapeTree.{ShapeTrees, no_trees, tree_and, tuple_tree, AreOf}
 use Rattle.bitcode_untyped.specs.Walk.{Place, walk, walk_fields}
 use Rattle.bitcode_untyped.proofs.OneRunLemmas.{runs-append}
 use Rattle.bitcode_untyped.proofs.OnceLemmas.{takes_one}
@@ -19,9 +19,11 @@ use Rattle.bitcode_serde.specs.declared.reader.Reader.{Reader}
 use Rattle.bitcode_serde.proofs.BudgetLemmas.{spend-then, left_before}
 use Rattle.bitcode_serde_types.specs.FieldsWritten.{tree_count}
 use Rattle.bitcode_serde_types.specs.Joined.{joined, joined_data}
-use Rattle.bitcode_serde_types.specs.ReadingAs.{ReadsFieldsAs, IsFieldsRefusalAt}
+use Rattle.bitcode_serde_types.specs.ReadingAs.{ReadsFieldsAs}
+use Rattle.bitcode_serde_types.specs.Refusals.{IsFieldsRefusalAt}
 use Rattle.bitcode_serde_types.specs.Restates.{RestatesFields}
 use Rattle.bitcode_serde_types.proofs.JoinedLemmas.{walk_joined, are_joined}
+use Rattle.bitcode_serde_types.proofs.RefusalLemmas.{reason_up, refuse_first, refuse_rest}
 
 pub joined_count : (ps rs : ShapeTrees) → tree_count (joined ps rs) ≡ tree_count ps + tree_count rs
 joined_count no_trees rs = omega arith
@@ -93,14 +95,14 @@ module _ (at : ℕ → Place) where
 
 module _ (ps rs : ShapeTrees) (place i fields : ℕ) (old : Reader) where
   pub first_part_refused : (why : Reason) → IsFieldsRefusalAt ps place i fields old why → IsFieldsRefusalAt (joined ps rs) place i fields old why
-  first_part_refused why h = (h.0, λ other p at a st. first_stuck (λ j. field_at fields p j) ps rs i a (h.1 other p at a st))
+  first_part_refused why h = (reason_up (tuple_tree ps) (tuple_tree (joined ps rs)) why (refuse_first ps rs why) h.0, λ other p at a st. first_stuck (λ j. field_at fields p j) ps rs i a (h.1 other p at a st))
 
   module _ {A : Type 0} (content : A → Data) (t : A) (before between : Budget) (mid : Reader) (c : Continues old mid)
       (first : ReadsFieldsAs content ps place i fields old before t mid between) where
     pub rest_part_refused : (why : Reason) → IsFieldsRefusalAt rs place (i + tree_count ps) fields mid why
         → IsFieldsRefusalAt (joined ps rs) place i fields old why
     rest_part_refused why h = (
-      h.0,
+      reason_up (tuple_tree rs) (tuple_tree (joined ps rs)) why (refuse_rest ps rs why) h.0,
       λ other p at a st.
           let g = first.read p at a st in
           rest_stuck (λ j. field_at fields p j) ps rs i a g.0 first.found g.2 (h.1 other p (c.kept place p at) g.0 g.1),

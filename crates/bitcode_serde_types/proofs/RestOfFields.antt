@@ -1,5 +1,5 @@
 -- Reading a field of a tuple, and then those behind it.
-use Rattle.std.proofs.Common.{◌≡◌, ℕ, ◌+◌, refl, ap, sym, subst, ◌∙◌}
+use Rattle.std.proofs.Common.{◌≡◌, ℕ, ◌+◌, inl, inr, refl, ap, sym, subst, ◌∙◌}
 use Rattle.bitcode_memory.specs.declared.error.Reason.{Reason}
 use Rattle.bitcode_shapes.specs.Datum.{Datum, Data, no_data, datum_and, tuple}
 use Rattle.bitcode_untyped.specs.Machine.{State, Takes}
@@ -10,14 +10,16 @@ use Rattle.bitcode_untyped.specs.ShapeTree.{ShapeTree, ShapeTrees, no_trees, tre
 use Rattle.bitcode_untyped.specs.Walk.{Place, field_place}
 use Rattle.bitcode_untyped.proofs.ReadLemmas.{fields_none, fields_and, fields_stuck_first, fields_stuck_rest, tuple_read, tuple_stuck}
 use Rattle.bitcode_serde.specs.Budget.{spend, IsLeft}
-use Rattle.bitcode_serde.specs.ReadingValues.{Continues, IsRefusalAt, IsFieldRefusalAt, field_at}
+use Rattle.bitcode_serde.specs.ReadingValues.{Continues, field_at}
 use Rattle.bitcode_serde.specs.declared.budget.Budget.{Budget}
 use Rattle.bitcode_serde.specs.declared.reader.Reader.{Reader}
 use Rattle.bitcode_serde.proofs.BudgetLemmas.{spend-then, left_before}
 use Rattle.bitcode_serde_types.specs.FieldsWritten.{tree_count}
-use Rattle.bitcode_serde_types.specs.ReadingAs.{ReadsAs, ReadsFieldAs, ReadsFieldsAs, IsFieldsRefusalAt}
+use Rattle.bitcode_serde_types.specs.ReadingAs.{ReadsAs, ReadsFieldAs, ReadsFieldsAs}
+use Rattle.bitcode_serde_types.specs.Refusals.{IsRefusalAt, IsFieldRefusalAt, IsFieldsRefusalAt}
 use Rattle.bitcode_serde_types.specs.Restates.{RestatesFields}
 use Rattle.bitcode_serde_types.proofs.FieldLemmas.{walk_of_fields}
+use Rattle.bitcode_serde_types.proofs.RefusalLemmas.{reason_up}
 
 pub no_fields : {A : Type 0} (content : A → Data) (t : A) (place i fields : ℕ) (r : Reader) (b : Budget) → content t ≡ no_data
     → ReadsFieldsAs content no_trees place i fields r b t r b
@@ -30,13 +32,13 @@ no_fields content t place i fields r b is = record {
 
 module _ (s : ShapeTree) (ss : ShapeTrees) (place i fields : ℕ) (old : Reader) where
   pub first_refused : (why : Reason) → IsFieldRefusalAt s place i fields old why → IsFieldsRefusalAt (tree_and s ss) place i fields old why
-  first_refused why h = (h.0, λ other p at a st. fields_stuck_first (λ j. field_at fields p j) s ss i a (h.1 other p at a st))
+  first_refused why h = (reason_up s (tuple_tree (tree_and s ss)) why inl h.0, λ other p at a st. fields_stuck_first (λ j. field_at fields p j) s ss i a (h.1 other p at a st))
 
   module _ {A : Type 0} (datum : A → Datum) (t : A) (before between : Budget) (mid : Reader) (c : Continues old mid)
       (one : ReadsFieldAs datum s place i fields old before t mid between) where
     pub rest_refused : (why : Reason) → IsFieldsRefusalAt ss place (i + 1) fields mid why → IsFieldsRefusalAt (tree_and s ss) place i fields old why
     rest_refused why h = (
-      h.0,
+      reason_up (tuple_tree ss) (tuple_tree (tree_and s ss)) why inr h.0,
       λ other p at a st.
           let g = one.read p at a st in
           fields_stuck_rest (λ j. field_at fields p j) s ss i a g.0 one.datum g.2 (h.1 other p (c.kept place p at) g.0 g.1),

@@ -14,22 +14,23 @@ use Rattle.bitcode_untyped.specs.ShapeTree.{ShapeTree, ShapeTrees, never_tree, u
 use Rattle.bitcode_untyped.specs.Walk.{variant, index_kind}
 use Rattle.bitcode_untyped.proofs.ReadLemmas.{never_read}
 use Rattle.bitcode_serde.specs.Budget.{spend, IsLeft}
-use Rattle.bitcode_serde.specs.ReadingValues.{IsSteady, Continues, Enters, EntersList, ReadsAt, ReadsFieldAt, IsValueReason, HasNone, IsRefusalAt, IsFieldRefusalAt}
+use Rattle.bitcode_serde.specs.ReadingValues.{IsSteady, Continues, Enters, EntersList, ReadsAt, ReadsFieldAt, HasNone}
 use Rattle.bitcode_serde.specs.Serializing.{Outcome}
 use Rattle.bitcode_serde.specs.declared.budget.Budget.{Budget}
 use Rattle.bitcode_serde.specs.declared.reader.Reader.{Reader}
 use Rattle.bitcode_serde.specs.declared.writer.state.Writer.{Writer}
 use Rattle.bitcode_serde.proofs.ColumnLemmas.{passed_on}
 use Rattle.bitcode_serde.proofs.SerializeLemmas.{one_fault}
-use Rattle.bitcode_serde.proofs.ValueLemmas.{seq_refused}
 use Rattle.bitcode_serde_types.specs.DeepFaults.{deep_faults}
 use Rattle.bitcode_serde_types.specs.FieldsWritten.{tree_count}
 use Rattle.bitcode_serde_types.specs.ReadingAs.{KeepsAs, ReadsAs, ReadsEachAs, FieldFound}
 use Rattle.bitcode_serde_types.specs.Restates.{Restates}
 use Rattle.bitcode_serde_types.proofs.FieldsRead.{FieldsKept, field_kept, field_not_kept, field_kept_at, field_not_kept_at, tuple_kept}
+use Rattle.bitcode_serde_types.proofs.RefusalLemmas.{seq_refused}
 use Rattle.bitcode_serde_types.proofs.KeptLemmas.{no_elements, elements_more, element_refused, elements_there, list_kept, unit_kept, choice_kept, payload_refused}
 -- what these functions cite of other modules
 pub use Rattle.bitcode_serde.proofs.ValueLemmas.{continues_on, still_there}
+use Rattle.bitcode_serde_types.specs.Refusals.{IsReasonOf, IsRefusalAt, IsFieldRefusalAt}
 pub use Rattle.bitcode_serde_types.proofs.EnteringLemmas.{columns_first, columns_behind}
 pub use Rattle.bitcode_serde_types.proofs.FieldsRead.{no_fields_kept, place_there}
 pub use Rattle.bitcode_serde_types.proofs.KeptLemmas.{kept_otherwise}
@@ -52,7 +53,7 @@ module _ {T : Type 0} (tree : ℕ → ShapeTree) (none : tree 0 ≡ never_tree) 
   pub too_deep : (old : Reader) → IfErr r (λ y. IsRefusalAt (tree left) place old y.reason)
   too_deep old =
       refused_on (tree left) place old r e was
-      (subst IsValueReason (sym deep.1) tt, λ other. subst (λ s. HasNone old place (ReadsNoDatum s)) (sym never) (λ p at a st. never_read p a))
+      (subst (IsReasonOf (tree left)) (sym deep.1) tt, λ other. subst (λ s. HasNone old place (ReadsNoDatum s)) (sym never) (λ p at a st. never_read p a))
 
   pub too_deep_written : (w : Writer) (d : Datum) → Outcome w (tree left) place d (deep_faults (tree left) d) r w
   too_deep_written w d =

@@ -1,5 +1,7 @@
 pub mod Arrays
+pub mod Checked
 pub mod DeepFaults
+pub mod Durations
 pub mod FieldsWritten
 pub mod Joined
 pub mod Keys
@@ -10,6 +12,7 @@ pub mod Options
 pub mod Orderings
 pub mod Pairs
 pub mod ReadingAs
+pub mod Refusals
 pub mod Restates
 pub mod Results
 pub mod Written

@@ -1,18 +1,17 @@
 -- What reading a value of a Rust type does.
 use Rattle.std.specs.Prelude.{◌≡◌, ℕ, List, map}
 use Rattle.std.specs.List.{AllZip}
-use Rattle.bitcode_memory.specs.declared.error.Reason.{Reason}
 use Rattle.bitcode_shapes.specs.Datum.{Datum, Data, data_of}
 use Rattle.bitcode_untyped.specs.Machine.{State}
 use Rattle.bitcode_untyped.specs.Nodes.{node_count, node_counts}
-use Rattle.bitcode_untyped.specs.Reads.{ReadsFields, ReadsNoFields}
+use Rattle.bitcode_untyped.specs.Reads.{ReadsFields}
 use Rattle.bitcode_untyped.specs.ShapeTree.{ShapeTree, ShapeTrees}
 use Rattle.bitcode_untyped.specs.Spelling.{SpellsDatum}
 use Rattle.bitcode_untyped.specs.Walk.{Place}
 use Rattle.bitcode_serde.specs.Budget.{spend, IsLeft}
 use Rattle.bitcode_serde.specs.Places.{IsPlace}
 use Rattle.bitcode_serde.specs.Reading.{Stands}
-use Rattle.bitcode_serde.specs.ReadingValues.{Continues, ReadsAt, ReadsFieldAt, ReadsListAt, GoesAlong, IsRefusalOf, field_at}
+use Rattle.bitcode_serde.specs.ReadingValues.{Continues, ReadsAt, ReadsFieldAt, ReadsListAt, GoesAlong, field_at}
 use Rattle.bitcode_serde.specs.declared.budget.Budget.{Budget}
 use Rattle.bitcode_serde.specs.declared.reader.Reader.{Reader}
 use Rattle.bitcode_serde_types.specs.Restates.{Restates, RestatesFields}
@@ -61,10 +60,6 @@ pub record ReadsFieldsAs {A : Type 0} (content : A → Data) (trees : ShapeTrees
   pub read : GoesAlong old place new (λ p a b. ReadsFields trees (λ j. field_at fields p j) i a found b)
   pub taken : after ≡ spend (node_counts found) before
   pub same : IsLeft after → RestatesFields trees found (content kept)
-
--- a refusal other than want of memory comes only where these fields are not to be had
-abbrev pub IsFieldsRefusalAt : ShapeTrees → ℕ → ℕ → ℕ → Reader → Reason → Type 0
-IsFieldsRefusalAt trees place i fields old = IsRefusalOf old place (λ p a. ReadsNoFields trees (λ j. field_at fields p j) i a)
 
 -- ---- a whole input
 

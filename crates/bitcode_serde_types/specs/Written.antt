@@ -5,9 +5,10 @@ pub use Rattle.bitcode_shapes.specs.LawfulInts.{width_1, width_2, width_4, width
 pub use Rattle.bitcode_coder.specs.Spelling.{natural, truth}
 pub use Rattle.bitcode_untyped.specs.Bounds.{column_free}
 pub use Rattle.bitcode_untyped.specs.ShapeTree.{ShapeTree, ShapeTrees, unit_tree, never_tree, bool_tree, natural_tree, integer_tree, float_tree, char_tree, text_tree, seq_tree, map_tree, option_tree, tuple_tree, choice_tree, no_trees, tree_and, IsSound}
-pub use Rattle.bitcode_serde.specs.ReadingValues.{IsSteady, Continues, IsRefusalAt}
+pub use Rattle.bitcode_serde.specs.ReadingValues.{IsSteady, Continues}
 pub use Rattle.bitcode_serde_types.specs.Options.{option_datum}
 pub use Rattle.bitcode_serde_types.specs.Pairs.{map_datum, set_datum}
 pub use Rattle.bitcode_serde_types.specs.ReadingAs.{ReadsAs}
+pub use Rattle.bitcode_serde_types.specs.Refusals.{IsRefusalAt}
 pub use Rattle.bitcode_serde_types.specs.Restates.{HasNoMap}
 pub use Rattle.bitcode_serde_types.specs.Results.{result_tree, result_datum}

@@ -2,11 +2,12 @@
 #![tactic(auto)]
 
 ghost use Rattle.std.specs.Prelude.{◌≡◌, ◌≤◌, length, IfOk, IfErr, OnOk};
-ghost use Rattle.bitcode_serde.specs.ReadingValues.{IsSteady, Continues, IsRefusalAt};
+ghost use Rattle.bitcode_serde.specs.ReadingValues.{IsSteady, Continues};
 ghost use Rattle.bitcode_serde.specs.Serializing.{Outcome};
 ghost use Rattle.bitcode_serde_types.specs.Arrays.{array_datum, array_tree, repeated_sound};
 ghost use Rattle.bitcode_serde_types.specs.DeepFaults.{deep_faults};
 ghost use Rattle.bitcode_serde_types.specs.ReadingAs.{ReadsAs};
+ghost use Rattle.bitcode_serde_types.specs.Refusals.{IsRefusalAt};
 
 use crate::deserialize_as::DeserializeAs;
 use crate::entering::read_field;

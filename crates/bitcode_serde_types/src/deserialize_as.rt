@@ -1,13 +1,13 @@
 //! Decoding values of Rust types.
-ghost use Rattle.std.specs.Prelude.{◌≡◌, ◌≢◌, ◌≤◌, ◌*◌, ℕ, length, IfOk, IfErr, OnOk};
+ghost use Rattle.std.specs.Prelude.{◌≡◌, ◌≤◌, ◌*◌, ℕ, length, IfOk, IfErr, OnOk};
 ghost use Rattle.bitcode_shapes.specs.Datum.{Datum};
 ghost use Rattle.bitcode_untyped.specs.Bounds.{column_free, element_count};
 ghost use Rattle.bitcode_untyped.specs.Nodes.{node_count};
 ghost use Rattle.bitcode_untyped.specs.PlacedColumns.{columns_of, entry_count};
 ghost use Rattle.bitcode_untyped.specs.Spelling.{SpellsDatum};
-ghost use Rattle.bitcode_serde.specs.ReadingValues.{IsSteady, Continues, IsRefusalAt, IsValueReason};
-ghost use Rattle.bitcode_serde.specs.ReadingValues.{IsRefusalWithin};
+ghost use Rattle.bitcode_serde.specs.ReadingValues.{IsSteady, Continues};
 ghost use Rattle.bitcode_serde_types.specs.ReadingAs.{KeepsAs, ReadsAs, SpellsAs};
+ghost use Rattle.bitcode_serde_types.specs.Refusals.{IsRefusalAt, IsRefusalWithin, IsWholeRefusal};
 ghost use Rattle.bitcode_serde_types.specs.Restates.{Restates, HasNoMap};
 
 use crate::serialize_as::{DEEPEST, SerializeAs};
@@ -54,9 +54,7 @@ fn read_whole<'a, T: DeserializeAs<'a>>(
         (λ t. KeepsAs (Restates (T.tree 513)) T.datum (SpellsDatum (T.tree 513) bytes.now)
         budget.old t budget.new) }
     ensures refused { IfErr result
-        (λ e. IsValueReason e.reason
-        × (e.reason ≢ Reason.OutOfMemory → (d : Datum) → SpellsDatum (T.tree 513) bytes.now d
-        → ⊥)) }
+        (λ e. IsWholeRefusal (T.tree 513) (SpellsDatum (T.tree 513) bytes.now) e.reason) }
 {
     let mut reader = Reader::new(alloc, bytes, false);
     let value: T = T::read(alloc, &mut reader, budget, DEEPEST, 0)?;
@@ -79,9 +77,7 @@ pub fn deserialize_as<'a, T: DeserializeAs<'a>>(alloc: Global, bytes: &'a [u8]) 
     ensures exact { HasNoMap (T.tree 513) → IfOk result
         (λ t. SpellsDatum (T.tree 513) bytes.now (T.datum t)) }
     ensures refused { IfErr result
-        (λ e. IsValueReason e.reason
-        × (e.reason ≢ Reason.OutOfMemory → (d : Datum) → SpellsDatum (T.tree 513) bytes.now d
-        → ⊥)) }
+        (λ e. IsWholeRefusal (T.tree 513) (SpellsDatum (T.tree 513) bytes.now) e.reason) }
     ensures unambiguous { (d e : Datum) → SpellsDatum (T.tree 513) bytes.now d
         → SpellsDatum (T.tree 513) bytes.now e → d ≡ e }
     ensures size_bound { (d : Datum) → SpellsDatum (T.tree 513) bytes.now d
@@ -113,7 +109,8 @@ pub fn deserialize_as_within<'a, T: DeserializeAs<'a>>(
     ensures within { (d : Datum) → SpellsDatum (T.tree 513) bytes.now d
         → OnOk result (node_count d ≤ limit) }
     ensures refused { IfErr result
-        (λ e. IsRefusalWithin limit (SpellsDatum (T.tree 513) bytes.now) e.reason) }
+        (λ e. IsRefusalWithin (T.tree 513) limit (SpellsDatum (T.tree 513) bytes.now)
+        e.reason) }
     ensures unambiguous { (d e : Datum) → SpellsDatum (T.tree 513) bytes.now d
         → SpellsDatum (T.tree 513) bytes.now e → d ≡ e }
     ensures size_bound { (d : Datum) → SpellsDatum (T.tree 513) bytes.now d

@@ -5,11 +5,12 @@ ghost use Rattle.bitcode_untyped.specs.Bounds.{column_free, free_limit};
 ghost use Rattle.bitcode_untyped.specs.ShapeTree.{ShapeTree, ShapeTrees, seq_tree, map_tree, choice_tree};
 ghost use Rattle.bitcode_untyped.specs.Walk.{variant, index_kind};
 ghost use Rattle.bitcode_serde.specs.Budget.{spend};
-ghost use Rattle.bitcode_serde.specs.ReadingValues.{IsSteady, Continues, IsRefusalAt, IsValueReason};
-ghost use Rattle.bitcode_serde.specs.ReadingValues.{Enters, EntersList, IsFieldRefusalAt};
+ghost use Rattle.bitcode_serde.specs.ReadingValues.{IsSteady, Continues, IsValueReason};
+ghost use Rattle.bitcode_serde.specs.ReadingValues.{Enters, EntersList};
 ghost use Rattle.bitcode_serde.proofs.ValueLemmas.{EntersMap};
 ghost use Rattle.bitcode_serde_types.specs.FieldsWritten.{tree_count};
 ghost use Rattle.bitcode_serde_types.specs.ReadingAs.{ReadsAs, ReadsFieldAs, FieldFound};
+ghost use Rattle.bitcode_serde_types.specs.Refusals.{IsRefusalAt, IsFieldRefusalAt};
 
 use crate::deserialize_as::DeserializeAs;
 use bitcode_memory::error::{Error, Reason};

@@ -4,6 +4,7 @@
 mod addresses;
 mod arrays;
 pub mod deserialize_as;
+mod durations;
 pub mod entering;
 pub mod fields;
 pub mod keys;
@@ -11,6 +12,7 @@ mod leaves;
 mod lists;
 pub mod maps;
 mod markers;
+mod nonzero;
 mod options;
 mod orderings;
 mod parts;

@@ -4,9 +4,10 @@
 ghost use Rattle.std.specs.Prelude.{◌≡◌, ◌≤◌, List, length, map, IfOk, IfErr, OnOk};
 ghost use Rattle.bitcode_shapes.specs.Datum.{Datum};
 ghost use Rattle.bitcode_untyped.specs.ShapeTree.{ShapeTree, map_tree};
-ghost use Rattle.bitcode_serde.specs.ReadingValues.{IsSteady, Continues, IsRefusalAt};
+ghost use Rattle.bitcode_serde.specs.ReadingValues.{IsSteady, Continues};
 ghost use Rattle.bitcode_serde.specs.Writing.{RefusesAt};
 ghost use Rattle.bitcode_serde_types.specs.Pairs.{BeginsMap, ReadsPairsAs, pair_datum, map_datum};
+ghost use Rattle.bitcode_serde_types.specs.Refusals.{IsRefusalAt};
 ghost use Rattle.bitcode_serde_types.specs.Restates.{AreEntriesOf};
 
 use crate::deserialize_as::DeserializeAs;

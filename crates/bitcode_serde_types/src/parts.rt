@@ -5,12 +5,13 @@ ghost use Rattle.std.specs.Prelude.{◌≡◌, ℕ, ◌+◌, ◌≤◌, length, 
 ghost use Rattle.bitcode_shapes.specs.Datum.{tuple};
 ghost use Rattle.bitcode_untyped.specs.Bounds.{all_free};
 ghost use Rattle.bitcode_untyped.specs.ShapeTree.{tuple_tree};
-ghost use Rattle.bitcode_serde.specs.ReadingValues.{IsSteady, Continues, IsRefusalAt};
+ghost use Rattle.bitcode_serde.specs.ReadingValues.{IsSteady, Continues};
 ghost use Rattle.bitcode_serde.specs.Serializing.{Outcome};
 ghost use Rattle.bitcode_serde_types.specs.DeepFaults.{deep_faults_of_fields};
 ghost use Rattle.bitcode_serde_types.specs.FieldsWritten.{tree_count};
 ghost use Rattle.bitcode_serde_types.specs.Joined.{joined, joined_data, data_count};
 ghost use Rattle.bitcode_serde_types.specs.ReadingAs.{ReadsAs};
+ghost use Rattle.bitcode_serde_types.specs.Refusals.{IsRefusalAt};
 
 use crate::fields::SerializeFields;
 use crate::read_fields::DeserializeFields;

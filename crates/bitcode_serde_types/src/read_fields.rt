@@ -5,9 +5,10 @@ ghost use Rattle.std.specs.Prelude.{◌≡◌, ℕ, ◌+◌, ◌≤◌, length, 
 ghost use Rattle.bitcode_shapes.specs.Datum.{Data, no_data, datum_and, tuple};
 ghost use Rattle.bitcode_untyped.specs.Bounds.{all_free};
 ghost use Rattle.bitcode_untyped.specs.ShapeTree.{ShapeTrees, no_trees, tree_and, tuple_tree};
-ghost use Rattle.bitcode_serde.specs.ReadingValues.{IsSteady, Continues, IsRefusalAt};
+ghost use Rattle.bitcode_serde.specs.ReadingValues.{IsSteady, Continues};
 ghost use Rattle.bitcode_serde_types.specs.FieldsWritten.{tree_count};
-ghost use Rattle.bitcode_serde_types.specs.ReadingAs.{ReadsAs, ReadsFieldsAs, IsFieldsRefusalAt};
+ghost use Rattle.bitcode_serde_types.specs.ReadingAs.{ReadsAs, ReadsFieldsAs};
+ghost use Rattle.bitcode_serde_types.specs.Refusals.{IsRefusalAt, IsFieldsRefusalAt};
 
 use crate::deserialize_as::DeserializeAs;
 use crate::entering::read_field;

@@ -7,9 +7,11 @@ ghost use Rattle.bitcode_shapes.specs.Shape.{any_number};
 ghost use Rattle.bitcode_untyped.specs.Bounds.{column_free};
 ghost use Rattle.bitcode_untyped.specs.ShapeTree.{leaf_tree, text_tree};
 ghost use Rattle.bitcode_untyped.specs.View.{datum_of};
+ghost use Rattle.bitcode_serde.specs.Budget.{spend};
 ghost use Rattle.bitcode_serde.specs.ReadColumns.{kind_of};
-ghost use Rattle.bitcode_serde.specs.ReadingValues.{IsSteady, Continues, IsRefusalAt};
+ghost use Rattle.bitcode_serde.specs.ReadingValues.{IsSteady, Continues, ReadsAt};
 ghost use Rattle.bitcode_serde_types.specs.ReadingAs.{ReadsAs};
+ghost use Rattle.bitcode_serde_types.specs.Refusals.{IsRefusalAt};
 
 use crate::deserialize_as::DeserializeAs;
 use bitcode_memory::error::{Error, Reason};
@@ -20,9 +22,9 @@ use bitcode_serde::read_leaf::read_leaf;
 use bitcode_serde::reader::Reader;
 use std::alloc::Global;
 
-// Reads a number or a bool: an entry of the column of its case.
+/// Reads a number or a bool: an entry of the column of its case.
 #[inline(always)]
-fn read_number<T: Case + Copy>(
+pub(crate) fn read_number<T: Case + Copy>(
     reader: &mut Reader<'_>,
     budget: &mut Budget,
     place: usize,
@@ -33,6 +35,10 @@ fn read_number<T: Case + Copy>(
     ensures read { IfOk result
         (λ t. ReadsAs (λ t. datum_of (T.holder t)) (leaf_tree (kind_of T.kind) any_number) place
         reader.old budget.old t reader.new budget.new) }
+    ensures taken { budget.new ≡ spend 1 budget.old }
+    ensures entry { IfOk result
+        (λ t. ReadsAt (leaf_tree (kind_of T.kind) any_number) place reader.old
+        (datum_of (T.holder t)) reader.new) }
     ensures refused { IfErr result
         (λ e. IsRefusalAt (leaf_tree (kind_of T.kind) any_number) place reader.old e.reason) }
 {

@@ -4,8 +4,9 @@
 ghost use Rattle.std.specs.Prelude.{◌≤◌, length, map, IfOk, IfErr, OnOk};
 ghost use Rattle.bitcode_shapes.specs.Datum.{list, data_of};
 ghost use Rattle.bitcode_untyped.specs.ShapeTree.{seq_tree};
-ghost use Rattle.bitcode_serde.specs.ReadingValues.{IsSteady, Continues, IsListRefusalAt};
+ghost use Rattle.bitcode_serde.specs.ReadingValues.{IsSteady, Continues};
 ghost use Rattle.bitcode_serde_types.specs.ReadingAs.{ReadsEachAs};
+ghost use Rattle.bitcode_serde_types.specs.Refusals.{IsListRefusalAt};
 
 use crate::deserialize_as::DeserializeAs;
 use crate::entering::{Elements, enter_list};

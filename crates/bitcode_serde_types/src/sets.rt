@@ -4,8 +4,9 @@
 ghost use Rattle.std.specs.Prelude.{◌≡◌, ◌≤◌, length, map, IfOk, IfErr, OnOk};
 ghost use Rattle.bitcode_shapes.specs.Datum.{unit};
 ghost use Rattle.bitcode_untyped.specs.ShapeTree.{map_tree, unit_tree};
-ghost use Rattle.bitcode_serde.specs.ReadingValues.{IsSteady, Continues, IsRefusalAt};
+ghost use Rattle.bitcode_serde.specs.ReadingValues.{IsSteady, Continues};
 ghost use Rattle.bitcode_serde_types.specs.Pairs.{ReadsPairsAs, pair_datum, set_datum, with_unit};
+ghost use Rattle.bitcode_serde_types.specs.Refusals.{IsRefusalAt};
 ghost use Rattle.bitcode_serde_types.specs.Restates.{AreEntriesOf};
 
 use crate::deserialize_as::DeserializeAs;

@@ -9,8 +9,9 @@ ghost use Rattle.std.specs.Rc.{rc_str_bytes};
 ghost use Rattle.bitcode_shapes.specs.Datum.{text};
 ghost use Rattle.bitcode_untyped.specs.Bounds.{column_free};
 ghost use Rattle.bitcode_untyped.specs.ShapeTree.{text_tree};
-ghost use Rattle.bitcode_serde.specs.ReadingValues.{IsSteady, Continues, IsRefusalAt};
+ghost use Rattle.bitcode_serde.specs.ReadingValues.{IsSteady, Continues};
 ghost use Rattle.bitcode_serde_types.specs.ReadingAs.{ReadsAs};
+ghost use Rattle.bitcode_serde_types.specs.Refusals.{IsRefusalAt};
 
 use crate::deserialize_as::DeserializeAs;
 use crate::leaves::write_text;

@@ -23,6 +23,15 @@ pub struct Lists {
     pub sixteen: (u8, u8, u8, u8, u8, u8, u8, u8, u8, u8, u8, u8, u8, u8, u8, i16),
     pub ends: Range<i64>,
     pub within: RangeInclusive<char>,
+    pub limits: Limits,
+}
+
+/// Types that have fewer values than their nodes.
+pub struct Limits {
+    pub took: Duration,
+    pub count: NonZeroU64,
+    pub offset: NonZeroI16,
+    pub size: NonZeroUsize,
 }
 
 /// Texts of each kind besides `String` and `&str`.

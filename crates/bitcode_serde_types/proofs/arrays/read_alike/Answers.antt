@@ -3,11 +3,11 @@ use Rattle.std.proofs.Common.{arith, ◌≡◌, suc, ◌+◌, ◌-◌, ◌++◌,
 use Rattle.std.proofs.lemmas.List.{map-append}
 use Rattle.std.proofs.lemmas.Result.{err_from_is_err_and}
 use Rattle.bitcode_untyped.specs.ShapeTree.{tree_and, no_trees}
-use Rattle.bitcode_serde.specs.ReadingValues.{IsRefusalAt, IsFieldRefusalAt}
 use Rattle.bitcode_serde.proofs.ColumnLemmas.{passed_on}
 use Rattle.bitcode_serde.proofs.ValueLemmas.{still_there}
 use Rattle.bitcode_serde_types.specs.Arrays.{repeated, array_tree, array_datum}
 use Rattle.bitcode_serde_types.specs.ReadingAs.{ReadsFieldAs}
+use Rattle.bitcode_serde_types.specs.Refusals.{IsRefusalAt, IsFieldRefusalAt}
 use Rattle.bitcode_serde_types.proofs.AlikeLemmas.{repeated_count}
 use Rattle.bitcode_serde_types.proofs.FieldsRead.{FieldsKept, no_fields_kept, field_kept, field_not_kept, tuple_kept}
 use Rattle.bitcode_serde_types.proofs.arrays.read_alike.Goals as goal

@@ -4,11 +4,11 @@ use Rattle.bitcode_untyped.specs.Nodes.{node_count}
 use Rattle.bitcode_untyped.specs.Spelling.{SpellsDatum}
 use Rattle.bitcode_untyped.proofs.LawLemmas.{datum_takes_an_eighth, elements_are_bounded}
 use Rattle.bitcode_serde.specs.Budget.{IsLeft}
-use Rattle.bitcode_serde.specs.ReadingValues.{IsRefusalWithin}
 use Rattle.bitcode_serde.proofs.BudgetLemmas.{within_limit, over_limit}
 use Rattle.bitcode_serde.proofs.ColumnLemmas.{passed_on}
 use Rattle.bitcode_serde.proofs.WholeLemmas.{one_spelled}
-use Rattle.bitcode_serde.proofs.WithinLemmas.{too_many_refused}
+use Rattle.bitcode_serde_types.specs.Refusals.{IsRefusalWithin}
+use Rattle.bitcode_serde_types.proofs.RefusalLemmas.{too_many_refused}
 use Rattle.bitcode_serde_types.proofs.RestatesLemmas.{kept_whole}
 use Rattle.bitcode_serde_types.proofs.deserialize_as.deserialize_as_within.Goals as goal
 
@@ -43,8 +43,8 @@ pub returns-then-is_spent-clause-refused : goal.returns-then-is_spent-clause-ref
 returns-then-is_spent-clause-refused g c =
     let k = c.in_ok-value.ensures.read in
     let spells = SpellsDatum (g.T.SerializeAs.tree 513) c.args.bytes.now in
-    passed_on (λ e. IsRefusalWithin c.args.limit spells e.reason) c.err.result _ _ c.err.ensures refl
-    (too_many_refused c.args.limit spells k.datum k.read (over_limit (node_count k.datum) c.args.limit (sym k.taken ∙ c.if-is_spent.ensures)))
+    passed_on (λ e. IsRefusalWithin (g.T.SerializeAs.tree 513) c.args.limit spells e.reason) c.err.result _ _ c.err.ensures refl
+    (too_many_refused (g.T.SerializeAs.tree 513) c.args.limit spells k.datum k.read (over_limit (node_count k.datum) c.args.limit (sym k.taken ∙ c.if-is_spent.ensures)))
 
 pub returns-clause-within : goal.returns-clause-within
 returns-clause-within g c = λ d spelled.

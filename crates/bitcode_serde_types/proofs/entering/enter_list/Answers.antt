@@ -6,10 +6,11 @@ use Rattle.bitcode_untyped.specs.Reads.{ReadsNoDatum}
 use Rattle.bitcode_untyped.specs.ShapeTree.{ShapeTree, seq_tree}
 use Rattle.bitcode_untyped.specs.Walk.{length_kind}
 use Rattle.bitcode_untyped.proofs.ReadLemmas.{seq_stuck_length}
-use Rattle.bitcode_serde.specs.ReadingValues.{IsRefusalAt}
 use Rattle.bitcode_serde.proofs.ColumnLemmas.{passed_on}
 use Rattle.bitcode_serde.proofs.ValueLemmas.{refused_entry, continues_stepped, enters_list}
+use Rattle.bitcode_serde_types.specs.Refusals.{IsRefusalAt}
 use Rattle.bitcode_serde_types.proofs.EnteringLemmas.{over_limit_refused}
+use Rattle.bitcode_serde_types.proofs.RefusalLemmas.{as_value}
 use Rattle.bitcode_serde_types.proofs.entering.enter_list.Goals as goal
 
 pub returns-in_err-taken-clause-refused : goal.returns-in_err-taken-clause-refused
@@ -18,7 +19,8 @@ returns-in_err-taken-clause-refused c =
     let y = err_from_is_err_and c.from_residual.result c.from_residual.ensures.1 in
     passed_on (λ e. (s : ShapeTree) → c.args.is_free ≡ column_free s → IsRefusalAt (seq_tree s) c.args.place old e.reason) c.from_residual.result
     c.in_err-taken.field-0.0 y.0 y.1 y.2
-    (λ s is. refused_entry old c.args.place length_kind (ReadsNoDatum (seq_tree s)) _ (λ p a stuck. seq_stuck_length s p a stuck) c.in_err-taken.ensures.refused)
+    (λ s is. as_value (seq_tree s) c.args.place old _
+    (refused_entry old c.args.place length_kind (ReadsNoDatum (seq_tree s)) _ (λ p a stuck. seq_stuck_length s p a stuck) c.in_err-taken.ensures.refused))
 
 pub returns-clause-continues : goal.returns-clause-continues
 returns-clause-continues c =

@@ -5,17 +5,19 @@ use Rattle.bitcode_untyped.specs.Reads.{ReadsNoDatum}
 use Rattle.bitcode_untyped.specs.ShapeTree.{ShapeTree, map_tree}
 use Rattle.bitcode_untyped.specs.Walk.{length_kind}
 use Rattle.bitcode_untyped.proofs.ReadLemmas.{map_stuck_length}
-use Rattle.bitcode_serde.specs.ReadingValues.{IsRefusalAt}
 use Rattle.bitcode_serde.proofs.ColumnLemmas.{passed_on}
 use Rattle.bitcode_serde.proofs.ValueLemmas.{asked_alike, refused_entry, still_there, continues_on, continues_stepped, enters_map}
+use Rattle.bitcode_serde_types.specs.Refusals.{IsRefusalAt}
+use Rattle.bitcode_serde_types.proofs.RefusalLemmas.{as_value}
 use Rattle.bitcode_serde_types.proofs.entering.enter_map.Goals as goal
 
 pub returns-in_err-taken-clause-refused : goal.returns-in_err-taken-clause-refused
 returns-in_err-taken-clause-refused c =
     let y = err_from_is_err_and c.from_residual.result c.from_residual.ensures.1 in
     passed_on (λ e. (k v : ShapeTree) → IsRefusalAt (map_tree k v) c.args.place c.args.reader.now e.reason) c.from_residual.result c.in_err-taken.field-0.0 y.0 y.1 y.2
-    (λ k v. refused_entry c.args.reader.now c.args.place length_kind (ReadsNoDatum (map_tree k v)) _ (λ p a stuck. map_stuck_length k v p a stuck)
-    c.in_err-taken.ensures.refused)
+    (λ k v. as_value (map_tree k v) c.args.place c.args.reader.now _
+    (refused_entry c.args.reader.now c.args.place length_kind (ReadsNoDatum (map_tree k v)) _ (λ p a stuck. map_stuck_length k v p a stuck)
+    c.in_err-taken.ensures.refused))
 
 pub step-requires-2 : goal.step-requires-2
 step-requires-2 c =

@@ -6,11 +6,12 @@ use Rattle.bitcode_untyped.specs.Reads.{ReadsNoDatum}
 use Rattle.bitcode_untyped.specs.ShapeTree.{ShapeTrees, choice_tree}
 use Rattle.bitcode_untyped.specs.Walk.{index_kind}
 use Rattle.bitcode_untyped.proofs.ReadLemmas.{choice_stuck_index}
-use Rattle.bitcode_serde.specs.ReadingValues.{IsRefusalAt}
 use Rattle.bitcode_serde.proofs.ColumnLemmas.{passed_on}
 use Rattle.bitcode_serde.proofs.ValueLemmas.{refused_entry, continues_stepped, enters_choice, no_choice}
 use Rattle.bitcode_serde_types.specs.FieldsWritten.{tree_count}
+use Rattle.bitcode_serde_types.specs.Refusals.{IsRefusalAt}
 use Rattle.bitcode_serde_types.proofs.EnteringLemmas.{tree_at_past}
+use Rattle.bitcode_serde_types.proofs.RefusalLemmas.{as_value, known_of}
 use Rattle.bitcode_serde_types.proofs.entering.enter_variant.Goals as goal
 
 pub returns-in_err-taken-clause-refused : goal.returns-in_err-taken-clause-refused
@@ -19,7 +20,8 @@ returns-in_err-taken-clause-refused c =
     let y = err_from_is_err_and c.from_residual.result c.from_residual.ensures.1 in
     passed_on (λ e. (ss : ShapeTrees) → tree_count ss ≡ c.args.variants → IsRefusalAt (choice_tree ss) c.args.place old e.reason) c.from_residual.result
     c.in_err-taken.field-0.0 y.0 y.1 y.2
-    (λ ss is. refused_entry old c.args.place index_kind (ReadsNoDatum (choice_tree ss)) _ (λ p a stuck. choice_stuck_index ss p a stuck) c.in_err-taken.ensures.refused)
+    (λ ss is. as_value (choice_tree ss) c.args.place old _
+    (refused_entry old c.args.place index_kind (ReadsNoDatum (choice_tree ss)) _ (λ p a stuck. choice_stuck_index ss p a stuck) c.in_err-taken.ensures.refused))
 
 pub returns-clause-continues : goal.returns-clause-continues
 returns-clause-continues c =
@@ -38,7 +40,7 @@ returns-then-index-variants-clause-refused c =
     passed_on (λ e. (ss : ShapeTrees) → tree_count ss ≡ c.args.variants → IsRefusalAt (choice_tree ss) c.args.place old e.reason) c.err.result _ _ c.err.ensures refl
     (λ ss is.
     let past : tree_count ss ≤ i = omega (arith, is) in (
-      c.requires.unknown,
+      known_of (choice_tree ss) c.args.unknown c.requires.unknown,
       λ other. no_choice ss i old c.take_index.new.self c.args.place (λ entries. c.in_ok-taken.taken.count ≡ count_of i entries) (tree_at_past ss i past)
           c.in_ok-taken.ensures.leads,
     ))

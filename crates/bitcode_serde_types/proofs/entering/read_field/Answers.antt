@@ -2,10 +2,11 @@
 use Rattle.std.proofs.Common.{rules, refl}
 use Rattle.std.proofs.lemmas.Result.{err_from_is_err_and}
 use Rattle.bitcode_serde.specs.Places.{places, place_at}
-use Rattle.bitcode_serde.specs.ReadingValues.{IsFieldRefusalAt}
 use Rattle.bitcode_serde.proofs.ColumnLemmas.{passed_on}
-use Rattle.bitcode_serde.proofs.FieldLemmas.{field_inside, field_inside_refused}
+use Rattle.bitcode_serde.proofs.FieldLemmas.{field_inside}
 use Rattle.bitcode_serde.proofs.ValueLemmas.{continues_on, still_there}
+use Rattle.bitcode_serde_types.specs.Refusals.{IsFieldRefusalAt}
+use Rattle.bitcode_serde_types.proofs.RefusalLemmas.{field_inside_refused}
 use Rattle.bitcode_serde_types.proofs.entering.read_field.Goals as goal
 
 pub read-requires : goal.read-requires

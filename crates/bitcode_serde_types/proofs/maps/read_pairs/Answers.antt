@@ -2,9 +2,9 @@
 use Rattle.std.proofs.Common.{rules, arith, ◌≡◌, ◌<◌}
 use Rattle.std.proofs.lemmas.Result.{err_from_is_err_and}
 use Rattle.bitcode_untyped.specs.ShapeTree.{map_tree}
-use Rattle.bitcode_serde.specs.ReadingValues.{IsRefusalAt}
 use Rattle.bitcode_serde.proofs.ColumnLemmas.{passed_on}
 use Rattle.bitcode_serde.proofs.ValueLemmas.{continues_on, still_there}
+use Rattle.bitcode_serde_types.specs.Refusals.{IsRefusalAt}
 use Rattle.bitcode_serde_types.proofs.PairLemmas.{no_memory, no_pairs, pairs_more, keys_there, values_there, key_not_kept, value_not_kept, pairs_kept}
 use Rattle.bitcode_serde_types.proofs.maps.read_pairs.Goals as goal
 

@@ -2,12 +2,12 @@
 use Rattle.std.proofs.Common.{arith, ◌≡◌, ◌+◌, refl, subst}
 use Rattle.std.proofs.lemmas.Result.{err_from_is_err_and}
 use Rattle.bitcode_untyped.specs.ShapeTree.{tuple_tree}
-use Rattle.bitcode_serde.specs.ReadingValues.{IsRefusalAt}
 use Rattle.bitcode_serde.proofs.ColumnLemmas.{passed_on}
 use Rattle.bitcode_serde.proofs.ValueLemmas.{continues_on, still_there}
 use Rattle.bitcode_serde_types.specs.FieldsWritten.{tree_count}
 use Rattle.bitcode_serde_types.specs.Joined.{joined, joined_data}
-use Rattle.bitcode_serde_types.specs.ReadingAs.{ReadsFieldsAs, IsFieldsRefusalAt}
+use Rattle.bitcode_serde_types.specs.ReadingAs.{ReadsFieldsAs}
+use Rattle.bitcode_serde_types.specs.Refusals.{IsRefusalAt, IsFieldsRefusalAt}
 use Rattle.bitcode_serde_types.proofs.PartsRead.{joined_count, first_part_refused, rest_part_refused, both_parts}
 use Rattle.bitcode_serde_types.proofs.RestOfFields.{fields_refused, all_read}
 use Rattle.bitcode_serde_types.proofs.parts.read_in_parts.Goals as goal

@@ -2,9 +2,9 @@
 use Rattle.std.proofs.Common.{subst, sym}
 use Rattle.std.proofs.lemmas.Result.{err_from_is_err_and}
 use Rattle.bitcode_untyped.specs.ShapeTree.{tuple_tree}
-use Rattle.bitcode_serde.specs.ReadingValues.{IsRefusalAt}
 use Rattle.bitcode_serde.proofs.ColumnLemmas.{passed_on}
-use Rattle.bitcode_serde_types.specs.ReadingAs.{ReadsFieldsAs, IsFieldsRefusalAt}
+use Rattle.bitcode_serde_types.specs.ReadingAs.{ReadsFieldsAs}
+use Rattle.bitcode_serde_types.specs.Refusals.{IsRefusalAt, IsFieldsRefusalAt}
 use Rattle.bitcode_serde_types.proofs.RestOfFields.{fields_refused, all_read}
 use Rattle.bitcode_serde_types.proofs.read_fields.read_tuple.Goals as goal
 

@@ -2,10 +2,10 @@
 use Rattle.std.proofs.Common.{rules, arith, ◌≡◌, ◌<◌, ◌+◌, ◌-◌, true, sym, subst}
 use Rattle.std.proofs.lemmas.Result.{err_from_is_err_and}
 use Rattle.bitcode_untyped.specs.Bounds.{column_free}
-use Rattle.bitcode_serde.specs.ReadingValues.{IsListRefusalAt}
 use Rattle.bitcode_serde.specs.declared.budget.Budget.TheVariants.{Spent}
 use Rattle.bitcode_serde.proofs.ColumnLemmas.{passed_on}
 use Rattle.bitcode_serde_types.specs.ReadingAs.{ReadsEachAs}
+use Rattle.bitcode_serde_types.specs.Refusals.{IsListRefusalAt}
 use Rattle.bitcode_serde_types.proofs.KeptLemmas.{rest_kept, elements_more, element_refused, elements_there}
 use Rattle.bitcode_serde_types.proofs.sequences.read_elements.Goals as goal
 

@@ -3,10 +3,10 @@ use Rattle.std.proofs.Common.{rules, arith, ◌≡◌, ◌<◌, [], map, refl, s
 use Rattle.std.proofs.lemmas.Result.{err_from_is_err_and}
 use Rattle.bitcode_shapes.specs.Datum.{unit}
 use Rattle.bitcode_untyped.specs.ShapeTree.{map_tree, unit_tree}
-use Rattle.bitcode_serde.specs.ReadingValues.{IsRefusalAt}
 use Rattle.bitcode_serde.proofs.ColumnLemmas.{passed_on}
 use Rattle.bitcode_serde.proofs.ValueLemmas.{asked_alike, continues_on}
 use Rattle.bitcode_serde_types.specs.Pairs.{with_unit}
+use Rattle.bitcode_serde_types.specs.Refusals.{IsRefusalAt}
 use Rattle.bitcode_serde_types.proofs.KeptLemmas.{unit_kept}
 use Rattle.bitcode_serde_types.proofs.PairLemmas.{PairsKept, no_memory, no_pairs, pairs_more, keys_there, key_not_kept, pairs_kept}
 use Rattle.bitcode_serde_types.proofs.SetLemmas.{with_unit_more}

@@ -5,9 +5,9 @@ use Rattle.std.proofs.lemmas.Iterator.Adapters.{YieldsList-from_vec}
 use Rattle.std.proofs.lemmas.List.{map-id}
 use Rattle.std.proofs.lemmas.Result.{err_from_is_err_and}
 use Rattle.bitcode_untyped.specs.ShapeTree.{seq_tree}
-use Rattle.bitcode_serde.specs.ReadingValues.{IsRefusalAt}
 use Rattle.bitcode_serde.proofs.ColumnLemmas.{passed_on}
 use Rattle.bitcode_serde_types.specs.Lists.{list_datum}
+use Rattle.bitcode_serde_types.specs.Refusals.{IsRefusalAt}
 use Rattle.bitcode_serde_types.proofs.KeptLemmas.{kept_otherwise}
 use Rattle.bitcode_serde_types.proofs.lists.LinkedListDeserializeAs.read.Goals as goal
 

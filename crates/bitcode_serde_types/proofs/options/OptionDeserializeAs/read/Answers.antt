@@ -3,10 +3,10 @@ use Rattle.std.proofs.Common.{◌≡◌, arith, refl, Some, None}
 use Rattle.std.proofs.lemmas.Result.{err_from_is_err_and}
 use Rattle.bitcode_shapes.specs.Datum.{unit}
 use Rattle.bitcode_untyped.specs.ShapeTree.{unit_tree, tree_and, no_trees, choice_tree}
-use Rattle.bitcode_serde.specs.ReadingValues.{IsRefusalAt}
 use Rattle.bitcode_serde.proofs.ColumnLemmas.{passed_on}
 use Rattle.bitcode_serde.proofs.ValueLemmas.{continues_on}
 use Rattle.bitcode_serde_types.specs.Options.{option_datum}
+use Rattle.bitcode_serde_types.specs.Refusals.{IsRefusalAt}
 use Rattle.bitcode_serde_types.proofs.KeptLemmas.{unit_kept, choice_kept, payload_refused}
 use Rattle.bitcode_serde_types.proofs.options.OptionDeserializeAs.read.Goals as goal
 

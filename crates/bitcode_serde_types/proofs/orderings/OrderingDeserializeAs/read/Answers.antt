@@ -4,9 +4,9 @@ use Rattle.std.proofs.lemmas.Result.{err_from_is_err_and}
 use Rattle.std.specs.declared.cmp.Ordering.TheVariants.{Less, Equal, Greater}
 use Rattle.bitcode_shapes.specs.Datum.{unit}
 use Rattle.bitcode_untyped.specs.ShapeTree.{unit_tree, tree_and, no_trees}
-use Rattle.bitcode_serde.specs.ReadingValues.{IsRefusalAt}
 use Rattle.bitcode_serde.proofs.ColumnLemmas.{passed_on}
 use Rattle.bitcode_serde_types.specs.Orderings.{ordering_datum, ordering_tree}
+use Rattle.bitcode_serde_types.specs.Refusals.{IsRefusalAt}
 use Rattle.bitcode_serde_types.proofs.KeptLemmas.{choice_kept, unit_kept}
 use Rattle.bitcode_serde_types.proofs.orderings.OrderingDeserializeAs.read.Goals as goal
 

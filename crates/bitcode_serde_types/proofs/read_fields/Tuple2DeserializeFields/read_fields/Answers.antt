@@ -4,7 +4,7 @@ use Rattle.std.proofs.lemmas.Result.{err_from_is_err_and}
 use Rattle.bitcode_untyped.specs.ShapeTree.{tree_and}
 use Rattle.bitcode_serde.proofs.ColumnLemmas.{passed_on}
 use Rattle.bitcode_serde.proofs.ValueLemmas.{continues_on, still_there}
-use Rattle.bitcode_serde_types.specs.ReadingAs.{IsFieldsRefusalAt}
+use Rattle.bitcode_serde_types.specs.Refusals.{IsFieldsRefusalAt}
 use Rattle.bitcode_serde_types.proofs.RestOfFields.{first_refused, rest_refused, field_and_rest}
 use Rattle.bitcode_serde_types.proofs.read_fields.Tuple2DeserializeFields.read_fields.Goals as goal
 

@@ -7,18 +7,21 @@ use Rattle.bitcode_shapes.specs.Shape.{scalar}
 use Rattle.bitcode_untyped.specs.Reads.{ReadsNoDatum}
 use Rattle.bitcode_untyped.specs.ShapeTree.{char_tree}
 use Rattle.bitcode_untyped.proofs.ReadLemmas.{leaf_stuck, leaf_refused}
-use Rattle.bitcode_serde.specs.ReadingValues.{ReadsAt, IsRefusalAt}
+use Rattle.bitcode_serde.specs.ReadingValues.{ReadsAt}
 use Rattle.bitcode_serde.proofs.ColumnLemmas.{passed_on}
 use Rattle.bitcode_serde.proofs.ValueLemmas.{refused_entry, led_at}
+use Rattle.bitcode_serde_types.specs.Refusals.{IsRefusalAt}
 use Rattle.bitcode_serde_types.proofs.KeptLemmas.{one_kept, leaf_led}
+use Rattle.bitcode_serde_types.proofs.RefusalLemmas.{as_value}
 use Rattle.bitcode_serde_types.proofs.read_leaves.CharDeserializeAs.read.Goals as goal
 
 pub returns-in_err-code-clause-refused : goal.returns-in_err-code-clause-refused
 returns-in_err-code-clause-refused c =
     let y = err_from_is_err_and c.from_residual.result c.from_residual.ensures.1 in
     passed_on (λ e. IsRefusalAt char_tree c.args.place c.args.reader.now e.reason) c.from_residual.result c.in_err-code.field-0.0 y.0 y.1 y.2
+    (as_value char_tree c.args.place c.args.reader.now _
     (refused_entry c.args.reader.now c.args.place (ints 4 false) (ReadsNoDatum char_tree) _ (λ p a stuck. leaf_stuck (ints 4 false) scalar p a stuck)
-    c.in_err-code.ensures.refused)
+    c.in_err-code.ensures.refused))
 
 pub returns-in-None-clause-refused : goal.returns-in-None-clause-refused
 returns-in-None-clause-refused c =

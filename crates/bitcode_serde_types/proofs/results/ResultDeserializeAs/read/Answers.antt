@@ -2,9 +2,9 @@
 use Rattle.std.proofs.Common.{◌≡◌, arith, refl, Ok, Err}
 use Rattle.std.proofs.lemmas.Result.{err_from_is_err_and}
 use Rattle.bitcode_untyped.specs.ShapeTree.{tree_and, no_trees, choice_tree}
-use Rattle.bitcode_serde.specs.ReadingValues.{IsRefusalAt}
 use Rattle.bitcode_serde.proofs.ColumnLemmas.{passed_on}
 use Rattle.bitcode_serde.proofs.ValueLemmas.{continues_on}
+use Rattle.bitcode_serde_types.specs.Refusals.{IsRefusalAt}
 use Rattle.bitcode_serde_types.specs.Results.{result_datum}
 use Rattle.bitcode_serde_types.proofs.KeptLemmas.{choice_kept, payload_refused}
 use Rattle.bitcode_serde_types.proofs.results.ResultDeserializeAs.read.Goals as goal

@@ -3,10 +3,11 @@ use Rattle.std.proofs.Common.{◌∙◌, map, refl}
 use Rattle.std.proofs.lemmas.Result.{err_from_is_err_and}
 use Rattle.bitcode_shapes.specs.Datum.{list, data_of}
 use Rattle.bitcode_untyped.specs.ShapeTree.{seq_tree}
-use Rattle.bitcode_serde.specs.ReadingValues.{IsRefusalAt}
 use Rattle.bitcode_serde.proofs.ColumnLemmas.{passed_on}
-use Rattle.bitcode_serde.proofs.ValueLemmas.{continues_on, seq_refused}
+use Rattle.bitcode_serde.proofs.ValueLemmas.{continues_on}
+use Rattle.bitcode_serde_types.specs.Refusals.{IsRefusalAt}
 use Rattle.bitcode_serde_types.proofs.KeptLemmas.{list_kept}
+use Rattle.bitcode_serde_types.proofs.RefusalLemmas.{seq_refused}
 use Rattle.bitcode_serde_types.proofs.sequences.VecDeserializeAs.read.Goals as goal
 
 pub returns-in_err-list-clause-refused : goal.returns-in_err-list-clause-refused

@@ -3,9 +3,9 @@ use Rattle.std.proofs.Common.{map, refl}
 use Rattle.bitcode_shapes.specs.Datum.{unit}
 use Rattle.std.proofs.lemmas.Result.{err_from_is_err_and}
 use Rattle.bitcode_untyped.specs.ShapeTree.{map_tree, unit_tree}
-use Rattle.bitcode_serde.specs.ReadingValues.{IsRefusalAt}
 use Rattle.bitcode_serde.proofs.ColumnLemmas.{passed_on}
 use Rattle.bitcode_serde_types.specs.Pairs.{set_datum, with_unit}
+use Rattle.bitcode_serde_types.specs.Refusals.{IsRefusalAt}
 use Rattle.bitcode_serde_types.proofs.PairLemmas.{map_kept}
 use Rattle.bitcode_serde_types.proofs.sets.HashSetDeserializeAs.read.Goals as goal
 
