@@ -276,7 +276,7 @@ impl<K: Key + Hash + Drop, V: Shaped + Drop> FromElements for HashMap<K, V> {
         ensures refused { IfErr result (λ e. e.reason ≡ Reason.OutOfMemory) }
     {
         told_each(elements.as_slice());
-        let mut map = HashMap::new(alloc);
+        let mut map = HashMap::with_capacity(alloc, elements.len())?;
         for (key, value) in elements {
             let _old = map.insert(key, value)?;
         }
