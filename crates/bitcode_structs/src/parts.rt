@@ -1,5 +1,5 @@
 //! What the encoder of some of a struct's fields forwards to.
-ghost use Rattle.std.specs.Prelude.{◌≡◌, ◌≤◌, ℕ, IsOk, OnOk, IfErr, IsErrOf};
+ghost use Rattle.std.specs.Prelude.{◌≡◌, ◌≤◌, IsOk, OnOk, IfErr, IsErrOf};
 ghost use Rattle.bitcode_memory.specs.declared.error.Reason.{Reason};
 ghost use Rattle.bitcode_coder.specs.Coder.{IsWritingRefusal, SurelyOverflows};
 

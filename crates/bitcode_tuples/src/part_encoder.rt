@@ -13,7 +13,7 @@ ghost use Rattle.bitcode_tuples.specs.PairLaws.{both_of_shape, both_surely};
 
 use crate::encoder::TupleEncoder;
 use crate::has_field::{FieldIn, HasField, Nothing, Nth};
-use bitcode_coder::coder::{Buffer, Encoder, MAX_VECTORED_CHUNK};
+use bitcode_coder::coder::{Encoder, MAX_VECTORED_CHUNK};
 use bitcode_coder::one::write_one;
 use bitcode_coder::part::Part;
 use bitcode_memory::error::{Error, Reason};
