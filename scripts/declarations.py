@@ -108,10 +108,16 @@ class Words:
         """Items between commas, up to the mark that closes them."""
         items = []
         while not self.take(close):
+            if item == self.type and self.begins_field():
+                raise Refused(self.line(), f"expected `{close}`, found `{self.tokens[self.at].text}`")
             items.append(item())
             if not self.peek(close):
                 self.expect(",")
         return items
+
+    def begins_field(self):
+        """Whether a field with a name or a `pub` begins here, or what stands before it."""
+        return self.tokens[self.at].kind == "doc" or self.peek("pub", "#") or self.tokens[self.at + 1].text == ":"
 
     def each(self, close, item):
         """The same of fields or variants: behind one that is refused the next is read."""
@@ -124,11 +130,24 @@ class Words:
                     self.expect(",")
                 continue
             self.at = start
-            self.until(",", close)
+            self.pass_one(close)
             self.take(",")
             if self.is_end():
                 raise Passed
         return items
+
+    def pass_one(self, close):
+        """Goes behind a field or a variant that is refused, and whose brackets may lack others."""
+        opened, of = [], {")": "(", "]": "[", "}": "{", ">": "<"}
+        while not self.is_end() and not (self.peek(close) and of[close] not in opened):
+            text = self.next().text
+            if text == "," and (not opened or "{" not in opened and self.begins_field()):
+                self.at -= 1
+                return
+            if text in of.values():
+                opened.append(text)
+            while of.get(text) in opened and opened.pop() != of[text]:
+                pass
 
     def until(self, *marks, opening="([{<", closing=")]}>"):
         """The texts up to one of these marks that no bracket holds."""

@@ -66,6 +66,11 @@ INSTEAD = {
     "SystemTime": "write a `Duration` since a time of your choice",
     "Instant": "write a `Duration` since a time of your choice",
     "NonZero": "write `NonZeroU8` and so on",
+    "c_char": "write `i8` or `u8`, as the platform has it",
+    **{f"c_{name}": f"write `{type}`" for name, type in {
+        "schar": "i8", "uchar": "u8", "short": "i16", "ushort": "u16", "int": "i32", "uint": "u32", "longlong": "i64",
+        "ulonglong": "u64", "float": "f32", "double": "f64"}.items()},
+    **{f"c_{name}": f"write `{type}64`, or `{type}32` where it has 4 bytes" for name, type in {"long": "i", "ulong": "u"}.items()},
     "f16": "write `f32`",
     "f128": "write `f64`",
     "IndexMap": "write `Vec<(K, V)>`",
@@ -167,6 +172,8 @@ class Checker:
 
     def __init__(self, item, own, told):
         self.item, self.own, self.told, self.imports, self.crates = item, own, told, set(), set()
+        # How often it was said that a type is no key.
+        self.no_keys = 0
 
     def check_all(self):
         """Checks the types of all fields."""
@@ -247,7 +254,10 @@ class Checker:
         if type.name in ("PhantomData", "Absent"):
             self.marker(type)
             return
-        is_checked = self.check_parts(types[:1])
+        others = self.no_keys - len(self.told.faults)
+        self.check_parts(types[:1])
+        # Whether nothing else is said of the first type than that it holds what is no key.
+        is_checked = others == self.no_keys - len(self.told.faults)
         self.check_parts(types[1:])
         if is_checked and type.name in KEYED and not self.is_replaced(types[0]):
             self.key(type, types)
@@ -268,7 +278,8 @@ class Checker:
         if not can_be_key(types[0], self.own, {"Key", KEYED[type.name]}):
             element = of_text(types[0] if len(types) == 1 else types[0]._replace(kind="tuple", parts=types))
             instead = no_key(types[0], self.own, KEYED[type.name]) or f"write `Vec<{element}>`"
-            raise Refused(type.line, f"`{of_text(types[0])}` is not a key (docs/CODERS.md, \"Keys\"): {instead}")
+            self.told.fault(type.line, f"`{of_text(types[0])}` is not a key (docs/CODERS.md, \"Keys\"): {instead}")
+            self.no_keys += 1
 
     def absent(self, type):
         """Stops at a type that has values."""

@@ -695,9 +695,10 @@ class Fields:
         is_vec = inner_of(type_, "Vec")
         if is_vec or type_.kind == "array" or is_list(type_):
             inner = pointed(type_.parts[0])
-            if inner.name in self.named or not is_vec:
+            if inner.name in self.named:
                 return f"write `Vec<{rust(inner)}>`"
-            return self.instead_of(inner) if inner.name in ("Option", "Result") else held_by_struct(inner)
+            instead = self.instead_of(inner) if inner.name in ("Option", "Result") else held_by_struct(inner)
+            return instead + ("" if is_vec else ", in a `Vec`")
         if is_map(type_):
             key, inner = type_.parts[0], pointed(type_.parts[1])
             if inner.name in self.named:
