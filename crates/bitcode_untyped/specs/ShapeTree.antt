@@ -1,5 +1,5 @@
 -- A shape with its references followed away is a tree, and says which data are of it.
-use Rattle.std.specs.Prelude.{◌≡◌, ℕ, zero, suc, ◌≤◌, Bool, None, true, false}
+use Rattle.std.specs.Prelude.{◌≡◌, ℕ, zero, suc, ◌≤◌, Bool, None, true, false, ◌&&◌}
 use Rattle.std.specs.Float.{Format}
 use Rattle.std.specs.List.{AllByRecursion}
 use Rattle.bitcode_memory.specs.declared.error.Reason.{Reason}
@@ -114,7 +114,20 @@ abbrev mutual
   IsOfVariant (tree_and s ss) zero d = IsOf s d
   IsOfVariant (tree_and s ss) (suc i) d = IsOfVariant ss i d
 
--- ---- the kinds in it are of columns that there are
+-- ---- its data have no entry in any column
+
+abbrev mutual
+  pub column_free : ShapeTree → Bool
+  column_free unit_tree = true
+  column_free (tuple_tree ss) = all_free ss
+  column_free (noted_tree note s) = column_free s
+  column_free _ = false
+
+  pub all_free : ShapeTrees → Bool
+  all_free no_trees = true
+  all_free (tree_and s ss) = column_free s && all_free ss
+
+-- ---- the kinds in it are of columns that there are, and a note is of data with a column
 
 abbrev mutual
   pub IsSound : ShapeTree → Type 0
@@ -125,7 +138,7 @@ abbrev mutual
   IsSound (map_tree k v) = IsSound k × IsSound v
   IsSound (tuple_tree ss) = AreSound ss
   IsSound (choice_tree ss) = AreSound ss
-  IsSound (noted_tree note s) = IsSound s
+  IsSound (noted_tree note s) = IsSound s × (column_free s ≡ false)
 
   pub AreSound : ShapeTrees → Type 0
   AreSound no_trees = Unit {0}
