@@ -6,7 +6,7 @@ use Rattle.bitcode_untyped.specs.Bounds.{column_free}
 use Rattle.bitcode_untyped.specs.Machine.{State}
 use Rattle.bitcode_untyped.specs.Nodes.{node_count}
 use Rattle.bitcode_untyped.specs.Reads.{ReadsDatum, ReadsNoDatum}
-use Rattle.bitcode_untyped.specs.ShapeTree.{ShapeTree, ShapeTrees, tree_and, never_tree, tuple_tree, tree_at}
+use Rattle.bitcode_untyped.specs.ShapeTree.{ShapeTree, ShapeTrees, tree_and, never_tree, tuple_tree, tree_at, IsSound}
 use Rattle.bitcode_untyped.specs.View.{datum_of, trees_of}
 use Rattle.bitcode_untyped.specs.Walk.{field, Place, field_place}
 use Rattle.bitcode_untyped.proofs.ReadLemmas.{FieldsSoFar, no_fields_yet, one_field_more, all_fields, fields_stuck_first, tuple_read, tuple_stuck}
@@ -96,37 +96,40 @@ module _ (f : ShapeNode → ShapeTree) where
             (subst (λ q. ReadsNoDatum (f n) q g.0) (sym (field_of ns p i)) none))),
       )
 
+    abbrev AreSoundTrees : Type 0
+    AreSoundTrees = (n : ShapeNode) → IsSound (f n)
+
     -- nothing is kept any more, and so many fields without columns follow
-    skip_by : (mid : Reader) (before : Budget) (vs : List Value) (n i : ℕ) → Continues old mid → i + n ≤ length ns → AreFreeBetween f ns i (i + n)
+    skip_by : (mid : Reader) (before : Budget) (vs : List Value) (n i : ℕ) → Continues old mid → i + n ≤ length ns → AreSoundTrees → AreFreeBetween f ns i (i + n)
         → KeepsEach datum_of (λ ds. FieldsAt i ds mid) before vs Spent → KeepsEach datum_of (λ ds. FieldsAt (i + n) ds mid) before vs Spent
-    skip_by mid before vs zero i c inside free k =
+    skip_by mid before vs zero i c inside sound free k =
         let e : i ≡ i + 0 = omega arith in subst (λ j. KeepsEach datum_of (λ ds. FieldsAt j ds mid) before vs Spent) e k
-    skip_by mid before vs (suc n) i c inside free k =
+    skip_by mid before vs (suc n) i c inside sound free k =
         let there = node_at ns i (omega (arith, inside)) in
         let this = free i there.0 (omega arith) (omega arith) there.1 in
         let d = free_datum (f there.0) in
         let more : KeepsEach datum_of (λ ds. FieldsAt (i + 1) ds mid) before vs Spent =
         keeps_more datum_of (λ ds. FieldsAt i ds mid) (λ ds. FieldsAt (i + 1) ds mid) before Spent Spent vs vs value.Unit d k
-        (one_more_field mid i there.0 k.listing c there.1 k.read d mid (λ p at a st. (a, st, free_read (f there.0) (field_at (length ns) p i) a this)))
+        (one_more_field mid i there.0 k.listing c there.1 k.read d mid (λ p at a st. (a, st, free_read (f there.0) (field_at (length ns) p i) a (sound there.0) this)))
         (sym (spend-Spent (node_count d))) (λ h. absurd h) (λ h. absurd h) in
         let e : i + 1 + n ≡ i + suc n = omega arith in
         subst (λ j. KeepsEach datum_of (λ ds. FieldsAt j ds mid) before vs Spent) e
-        (skip_by mid before vs n (i + 1) c (omega (arith, inside)) (λ j m low high. free j m (omega (arith, low)) (omega (arith, high))) more)
+        (skip_by mid before vs n (i + 1) c (omega (arith, inside)) sound (λ j m low high. free j m (omega (arith, low)) (omega (arith, high))) more)
 
-    skipped : (mid : Reader) (before : Budget) (vs : List Value) (i j : ℕ) → Continues old mid → i ≤ j → j ≤ length ns → AreFreeBetween f ns i j
+    skipped : (mid : Reader) (before : Budget) (vs : List Value) (i j : ℕ) → Continues old mid → i ≤ j → j ≤ length ns → AreSoundTrees → AreFreeBetween f ns i j
         → KeepsEach datum_of (λ ds. FieldsAt i ds mid) before vs Spent → KeepsEach datum_of (λ ds. FieldsAt j ds mid) before vs Spent
-    skipped mid before vs i j c low high free k =
+    skipped mid before vs i j c low high sound free k =
         let e : i + (j - i) ≡ j = omega (arith, low) in
         subst (λ m. KeepsEach datum_of (λ ds. FieldsAt m ds mid) before vs Spent) e
-        (skip_by mid before vs (j - i) i c (omega (arith, low, high)) (λ m n below above. free m n below (omega (arith, above, low))) k)
+        (skip_by mid before vs (j - i) i c (omega (arith, low, high)) sound (λ m n below above. free m n below (omega (arith, above, low))) k)
 
     -- read on from a field
     pub fields_on : (mid : Reader) (before after : Budget) (vs : List Value) (i j : ℕ) → Continues old mid → i ≤ j → j ≤ length ns → (IsLeft after → j ≡ i)
-        → AreFreeBetween f ns i j → KeepsEach datum_of (λ ds. FieldsAt i ds mid) before vs after → KeepsEach datum_of (λ ds. FieldsAt j ds mid) before vs after
-    fields_on mid before Endless vs i j c low high kept free k = subst (λ m. KeepsEach datum_of (λ ds. FieldsAt m ds mid) before vs Endless) (sym (kept tt)) k
-    fields_on mid before (Nodes left) vs i j c low high kept free k =
+        → AreSoundTrees → AreFreeBetween f ns i j → KeepsEach datum_of (λ ds. FieldsAt i ds mid) before vs after → KeepsEach datum_of (λ ds. FieldsAt j ds mid) before vs after
+    fields_on mid before Endless vs i j c low high kept sound free k = subst (λ m. KeepsEach datum_of (λ ds. FieldsAt m ds mid) before vs Endless) (sym (kept tt)) k
+    fields_on mid before (Nodes left) vs i j c low high kept sound free k =
         subst (λ m. KeepsEach datum_of (λ ds. FieldsAt m ds mid) before vs (Nodes left)) (sym (kept tt)) k
-    fields_on mid before Spent vs i j c low high kept free k = skipped mid before vs i j c low high free k
+    fields_on mid before Spent vs i j c low high kept sound free k = skipped mid before vs i j c low high sound free k
 
     pub tuple_done : (mid : Reader) (i : ℕ) (done : List Datum) → i ≡ length ns → FieldsAt i done mid → ReadsAt (tuple_tree trees) place old (tuple (data_of done)) mid
     tuple_done mid i done last so_far p at a st =
@@ -164,14 +167,14 @@ module _ (s : ShapeTree) (place i fields : ℕ) where
     free_field_refused old why h = (h.0, λ other p at a st d b r. h.1 other p at a st d b (free_elsewhere s (field_at fields p i) p a d b free r))
 
     -- nothing is kept any more
-    pub field_skipped : (IsWhole : Value → Type 0) (r : Reader) (b : Budget) (vs : List Value) → b ≡ Spent → AddsFieldWithin s IsWhole place i fields r b vs r b vs
-    field_skipped IsWhole r b vs gone =
+    pub field_skipped : IsSound s → (IsWhole : Value → Type 0) (r : Reader) (b : Budget) (vs : List Value) → b ≡ Spent → AddsFieldWithin s IsWhole place i fields r b vs r b vs
+    field_skipped sound IsWhole r b vs gone =
         let none : IsLeft b → ⊥ = λ left. subst IsLeft gone left in
         record {
           value = value.Unit;
           read = record {
             datum = free_datum s;
-            read = λ p at a st. (a, st, free_read s (field_at fields p i) a free);
+            read = λ p at a st. (a, st, free_read s (field_at fields p i) a sound free);
             taken = gone ∙ sym (ap (spend (node_count (free_datum s))) gone ∙ spend-Spent (node_count (free_datum s)));
             same = λ left. absurd (none left);
           };

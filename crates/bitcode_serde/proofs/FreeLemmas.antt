@@ -7,7 +7,7 @@ use Rattle.bitcode_shapes.specs.Datum.{Datum, Data, first_of, rest_of, fields_in
 use Rattle.bitcode_untyped.specs.Machine.{State, Takes}
 use Rattle.bitcode_untyped.specs.Reads.{ReadsDatum}
 use Rattle.bitcode_untyped.specs.Runs.{Runs}
-use Rattle.bitcode_untyped.specs.ShapeTree.{ShapeTree, ShapeTrees, unit_tree, never_tree, leaf_tree, seq_tree, map_tree, tuple_tree, choice_tree, no_trees, tree_and}
+use Rattle.bitcode_untyped.specs.ShapeTree.{ShapeTree, ShapeTrees, unit_tree, never_tree, leaf_tree, seq_tree, map_tree, tuple_tree, choice_tree, noted_tree, no_trees, tree_and}
 use Rattle.bitcode_untyped.specs.Walk.{Place, field_place, walk, walk_fields}
 use Rattle.bitcode_untyped.specs.View.{tree_by, trees_of}
 use Rattle.bitcode_untyped.specs.declared.shape.ShapeNode.{ShapeNode}
@@ -30,6 +30,7 @@ mutual
   no_walk (map_tree k v) p d h = cc
   no_walk (choice_tree ss) p d h = cc
   no_walk (tuple_tree ss) p d h = no_walks ss (field_place ss p) 0 (fields_in d) h
+  no_walk (noted_tree note s) p d h = no_walk s p d h
 
   no_walks : (ss : ShapeTrees) (at : ℕ → Place) (i : ℕ) (ds : Data) → all_free ss ≡ true → walk_fields ss at i ds ≡ []
   no_walks no_trees at i ds h = refl

@@ -10,7 +10,7 @@ use Rattle.bitcode_untyped.specs.Bounds.{column_free}
 use Rattle.bitcode_untyped.specs.Faults.{faults_of}
 use Rattle.bitcode_untyped.specs.Leaves.{Entry, entry_of}
 use Rattle.bitcode_untyped.specs.Nodes.{node_count, node_counts}
-use Rattle.bitcode_untyped.specs.ShapeTree.{ShapeTree, unit_tree}
+use Rattle.bitcode_untyped.specs.ShapeTree.{ShapeTree, unit_tree, IsSound}
 use Rattle.bitcode_untyped.specs.View.{datum_of, datum_of_entry, followed, tree_by, tree_of_node}
 use Rattle.bitcode_untyped.specs.declared.shape.ShapeNode.{ShapeNode}
 use Rattle.bitcode_untyped.specs.declared.value.Value.{Value, out-Value}
@@ -100,33 +100,33 @@ bytes_taken before mid after n ns first second size =
 -- ---- nothing is kept any more
 
 -- Further elements without a column are read where they stand.
-pub rest_within : (s : ShapeTree) (place : ℕ) (old mid : Reader) (before : Budget) (vs : List Value) (n i : ℕ) → Continues old mid → column_free s ≡ true
-    → ReadsListWithin s place old before i vs mid Spent → ReadsListWithin s place old before (i + n) vs mid Spent
-rest_within s place old mid before vs zero i c free k =
+pub rest_within : (s : ShapeTree) (place : ℕ) (old mid : Reader) (before : Budget) (vs : List Value) (n i : ℕ) → Continues old mid → IsSound s
+    → column_free s ≡ true → ReadsListWithin s place old before i vs mid Spent → ReadsListWithin s place old before (i + n) vs mid Spent
+rest_within s place old mid before vs zero i c sound free k =
     let e : i ≡ i + 0 = omega arith in subst (λ j. ReadsListWithin s place old before j vs mid Spent) e k
-rest_within s place old mid before vs (suc n) i c free k =
+rest_within s place old mid before vs (suc n) i c sound free k =
     let d = free_datum s in
     let more : ReadsListWithin s place old before (i + 1) vs mid Spent =
     keeps_more datum_of (λ ds. ReadsListAt s place old i ds mid) (λ ds. ReadsListAt s place old (i + 1) ds mid) before Spent Spent vs vs value.Unit d k
-    (one_more s place old mid mid i k.listing d c k.read (λ p at a st. (a, st, free_read s p a free))) (sym (spend-Spent (node_count d))) (λ h. absurd h) (λ h. absurd h) in
+    (one_more s place old mid mid i k.listing d c k.read (λ p at a st. (a, st, free_read s p a sound free))) (sym (spend-Spent (node_count d))) (λ h. absurd h) (λ h. absurd h) in
     let e : i + 1 + n ≡ i + suc n = omega arith in
-    subst (λ j. ReadsListWithin s place old before j vs mid Spent) e (rest_within s place old mid before vs n (i + 1) c free more)
+    subst (λ j. ReadsListWithin s place old before j vs mid Spent) e (rest_within s place old mid before vs n (i + 1) c sound free more)
 
 -- Further pairs without a column are read where they stand.
 pub rest_pairs_within : {A : Type 0} (content : A → Datum) (k v : ShapeTree) (keys values : ℕ) (old mid : Reader) (before : Budget) (es : List A) (e : A) (n i : ℕ)
-    → Continues old mid → column_free k ≡ true → column_free v ≡ true
+    → Continues old mid → IsSound k → IsSound v → column_free k ≡ true → column_free v ≡ true
     → KeepsEach content (λ ds. ReadsPairsAt k v keys values old i ds mid) before es Spent
     → KeepsEach content (λ ds. ReadsPairsAt k v keys values old (i + n) ds mid) before es Spent
-rest_pairs_within content k v keys values old mid before es e zero i c free_key free_value so_far =
+rest_pairs_within content k v keys values old mid before es e zero i c sound_key sound_value free_key free_value so_far =
     let same : i ≡ i + 0 = omega arith in subst (λ j. KeepsEach content (λ ds. ReadsPairsAt k v keys values old j ds mid) before es Spent) same so_far
-rest_pairs_within content k v keys values old mid before es e (suc n) i c free_key free_value so_far =
+rest_pairs_within content k v keys values old mid before es e (suc n) i c sound_key sound_value free_key free_value so_far =
     let stays : Continues mid mid = record { steady = c.steady; asked = asked_alike mid; kept = λ j p at. at } in
     let x = free_datum k in
     let y = free_datum v in
     let more : KeepsEach content (λ ds. ReadsPairsAt k v keys values old (i + 1) ds mid) before es Spent =
     keeps_more content (λ ds. ReadsPairsAt k v keys values old i ds mid) (λ ds. ReadsPairsAt k v keys values old (i + 1) ds mid) before Spent Spent es es e (pair x y) so_far
-    (one_more_pair k v keys values old mid i so_far.listing c so_far.read mid mid x y stays (λ p at a st. (a, st, free_read k p a free_key))
-    (λ p at a st. (a, st, free_read v p a free_value))) (sym (spend-Spent (node_count (pair x y)))) (λ h. absurd h) (λ h. absurd h) in
+    (one_more_pair k v keys values old mid i so_far.listing c so_far.read mid mid x y stays (λ p at a st. (a, st, free_read k p a sound_key free_key))
+    (λ p at a st. (a, st, free_read v p a sound_value free_value))) (sym (spend-Spent (node_count (pair x y)))) (λ h. absurd h) (λ h. absurd h) in
     let all : i + 1 + n ≡ i + suc n = omega arith in
     subst (λ j. KeepsEach content (λ ds. ReadsPairsAt k v keys values old j ds mid) before es Spent) all
-    (rest_pairs_within content k v keys values old mid before es e n (i + 1) c free_key free_value more)
+    (rest_pairs_within content k v keys values old mid before es e n (i + 1) c sound_key sound_value free_key free_value more)

@@ -12,10 +12,10 @@ use Rattle.bitcode_untyped.specs.Reads.{ReadsDatum, ReadsNoDatum, IsReadable, Is
 use Rattle.bitcode_untyped.specs.Bounds.{column_free, free_limit}
 use Rattle.bitcode_untyped.specs.Population.{total, count_of}
 use Rattle.bitcode_untyped.specs.Runs.{Runs}
-use Rattle.bitcode_untyped.specs.ShapeTree.{ShapeTree, ShapeTrees, no_trees, tree_and, unit_tree, never_tree, leaf_tree, seq_tree, map_tree, choice_tree, tree_at, greatest_index}
+use Rattle.bitcode_untyped.specs.ShapeTree.{Note, ShapeTree, ShapeTrees, no_trees, tree_and, unit_tree, never_tree, leaf_tree, seq_tree, map_tree, choice_tree, noted_tree, tree_at, IsAdmitted, greatest_index}
 use Rattle.bitcode_untyped.specs.PlacedColumns.{PlacedColumn}
 use Rattle.bitcode_untyped.specs.Walk.{element, key, value, variant, Place, use_at, length_kind, index_kind, walk}
-use Rattle.bitcode_untyped.proofs.ReadLemmas.{many_push, many_stuck, one_datum_read, unit_read, never_read, seq_read, seq_stuck, choice_read, choice_stuck, one_pair_read, pair_read, pair_stuck_key, pair_stuck_value, map_read, map_stuck}
+use Rattle.bitcode_untyped.proofs.ReadLemmas.{many_push, many_stuck, one_datum_read, unit_read, never_read, seq_read, seq_stuck, choice_read, choice_stuck, one_pair_read, pair_read, pair_stuck_key, pair_stuck_value, map_read, map_stuck, noted_read, noted_stuck, noted_refused}
 use Rattle.bitcode_untyped.specs.View.{datum_of}
 use Rattle.bitcode_untyped.specs.declared.value.Value.{Value}
 use Rattle.bitcode_serde.specs.ReadColumns.{kind_of, IsColumnReason}
@@ -282,6 +282,21 @@ pub no_choice : (ss : ShapeTrees) (i : ℕ) (old new : Reader) (place : ℕ) (To
 no_choice ss i old new place Told is leads p at a st =
     let t = told_at old new place index_kind (natural i) Told leads p at a st in
     choice_stuck ss p a i t.0 t.2.takes (subst (λ s. ReadsNoDatum s (variant i ∷ p) t.0) (sym is) (never_read (variant i ∷ p) t.0))
+
+-- ---- notes
+
+module _ (note : Note) (s : ShapeTree) (place : ℕ) (old : Reader) where
+  pub noted_read_at : (d : Datum) (new : Reader) → IsAdmitted note d → ReadsAt s place old d new → ReadsAt (noted_tree note s) place old d new
+  noted_read_at d new admitted one p at a st =
+      let r = one p at a st in (r.0, r.1, noted_read note s p a d r.0 admitted r.2)
+
+  pub none_noted : HasNone old place (ReadsNoDatum s) → HasNone old place (ReadsNoDatum (noted_tree note s))
+  none_noted none p at a st = noted_stuck note s p a (none p at a st)
+
+  -- a datum is read that is not admitted
+  pub none_admitted : (d : Datum) (new : Reader) → ReadsAt s place old d new → (IsAdmitted note d → ⊥) → HasNone old place (ReadsNoDatum (noted_tree note s))
+  none_admitted d new one bad p at a st =
+      let r = one p at a st in noted_refused note s p a d r.0 r.2 bad
 
 -- ---- maps
 

@@ -15,7 +15,7 @@ use Rattle.bitcode_coder.specs.Spelling.{natural}
 use Rattle.bitcode_untyped.specs.Faults.{Judge, faults_of_fields, faults_of}
 use Rattle.bitcode_untyped.specs.Growing.{put}
 use Rattle.bitcode_untyped.specs.PlaceKinds.{HasKindFrom, HasKindAt}
-use Rattle.bitcode_untyped.specs.ShapeTree.{ShapeTree, leaf_tree, ShapeTrees, no_trees, tree_and, map_tree, tuple_tree, choice_tree, IsOf, AreOf, IsOfVariant, IsPair}
+use Rattle.bitcode_untyped.specs.ShapeTree.{Note, ShapeTree, leaf_tree, ShapeTrees, no_trees, tree_and, map_tree, tuple_tree, choice_tree, noted_tree, IsAdmitted, IsOf, AreOf, IsOfVariant, IsPair}
 use Rattle.bitcode_untyped.specs.View.{datum_of, followed, tree_of_node, trees_of}
 use Rattle.bitcode_untyped.specs.Walk.{key, value, variant, Place, Use, use_at, length_kind, index_kind, field_place, walk, walk_fields, walk_variant}
 use Rattle.bitcode_untyped.specs.declared.shape.ShapeNode.{ShapeNode}
@@ -31,6 +31,7 @@ use Rattle.bitcode_serde.specs.Serializing.{Outcome, IsEntryAt, IsVariant}
 use Rattle.bitcode_serde.specs.Writing.{written, place_in, Grows, Writes, AreOfShape, IsAmong, RefusesAt}
 use Rattle.bitcode_serde.specs.declared.writer.state.Writer.{Writer}
 use Rattle.bitcode_serde.proofs.FieldLemmas.{field_of}
+use Rattle.bitcode_serde.proofs.OutcomeLemmas.{when_ok}
 use Rattle.bitcode_serde.proofs.SerializeLemmas.{grows_same, grows_then, kept, writes_put, writes_none, writes_then, refuses_use, refuses_inside, among_front, among_back, listed, each_map, same_outcome}
 
 -- ---- the entry at a number
@@ -195,6 +196,13 @@ variant_outcome old start new ss t i n m e faults r is small first at o =
     (λ q kind h. inr (i, kind_of_variant ss i t (variant i ∷ p) q kind is (subst (λ z. HasKindFrom t z q kind) at h)))
     (ap (λ w. use_at p index_kind (natural i) ∷ w) (ap (λ z. walk t z e) at ∙ sym (walk_of_variant ss i t (variant i ∷ p) e is)))
     (λ of. (refl, small, of_variant ss i t e is of)) o
+
+-- ---- notes
+
+pub noted_outcome : {A : Type 0} (note : Note) (old new : Writer) (s : ShapeTree) (n : ℕ) (d : Datum) (faults : List Reason) (r : Result A Error)
+    → IsAdmitted note d → Outcome old s n d faults r new → Outcome old (noted_tree note s) n d faults r new
+noted_outcome note old new s n d faults r admitted o =
+    record { written = o.written; of_tree = when_ok r (λ of. (of, admitted)) o.of_tree; whole = o.whole; refused = o.refused }
 
 -- ---- maps
 

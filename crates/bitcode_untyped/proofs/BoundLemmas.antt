@@ -4,7 +4,7 @@ use Rattle.std.specs.List.{AllByRecursion, flat_map}
 use Rattle.bitcode_shapes.specs.Datum.{Datum, Data, unit, number, text, list, tuple, choice, no_data, datum_and, list_of, elements_in, fields_in, first_in, second_in, variant_in, payload_in}
 use Rattle.bitcode_coder.specs.Columns.{Kind, bools, ints, floats, lengths, texts, raws, variants, IsEntryOf}
 use Rattle.bitcode_untyped.specs.Bounds.{element_count, element_counts, column_free, all_free, IsLimited, AreLimited, IsLimitedVariant}
-use Rattle.bitcode_untyped.specs.ShapeTree.{ShapeTree, unit_tree, never_tree, leaf_tree, seq_tree, map_tree, tuple_tree, choice_tree, ShapeTrees, no_trees, tree_and, IsList, IsPair, IsOf, AreOf, IsOfVariant}
+use Rattle.bitcode_untyped.specs.ShapeTree.{ShapeTree, unit_tree, never_tree, leaf_tree, seq_tree, map_tree, tuple_tree, choice_tree, noted_tree, ShapeTrees, no_trees, tree_and, IsList, IsPair, IsOf, AreOf, IsOfVariant}
 use Rattle.bitcode_untyped.specs.Walk.{element, key, value, variant, Place, Use, field_place, walk, walk_fields, walk_variant}
 
 abbrev pub counts_of : List Datum → ℕ
@@ -86,6 +86,7 @@ mutual
       let b = bounded_variant ss (variant_in d) (variant (variant_in d) ∷ p) (payload_in d) h.2 k in
       let e : element_count d ≡ element_count (payload_in d) = ap element_count h.0 in
       omega (arith, b, e)
+  bounded (noted_tree note s) p d h k = bounded s p d h.0 k
 
   pub bounded_fields : (ss : ShapeTrees) (at : ℕ → Place) (i : ℕ) (ds : Data) → AreOf ss ds → AreLimited ss ds
       → element_counts ds + own (all_free ss) ≤ 65537 * length (walk_fields ss at i ds)

@@ -7,7 +7,7 @@ use Rattle.bitcode_coder.specs.Columns.{Kind, IsEntryOf, IsSoundKind}
 use Rattle.bitcode_coder.specs.Transposition.{length_entry, variant_entry}
 use Rattle.bitcode_untyped.specs.PlaceKinds.{HasKindFrom, HasKindAt}
 use Rattle.bitcode_untyped.specs.PlacedColumns.{same_place, entries_at, PlacedColumn, columns, columns_of}
-use Rattle.bitcode_untyped.specs.ShapeTree.{ShapeTree, unit_tree, never_tree, leaf_tree, seq_tree, map_tree, tuple_tree, choice_tree, ShapeTrees, no_trees, tree_and, IsPair, IsOf, AreOf, IsOfVariant, IsSound, AreSound}
+use Rattle.bitcode_untyped.specs.ShapeTree.{ShapeTree, unit_tree, never_tree, leaf_tree, seq_tree, map_tree, tuple_tree, choice_tree, noted_tree, ShapeTrees, no_trees, tree_and, IsPair, IsOf, AreOf, IsOfVariant, IsSound, AreSound}
 use Rattle.bitcode_untyped.specs.Walk.{element, key, value, variant, Place, Use, length_kind, index_kind, field_place, walk, walk_fields, walk_variant}
 use Rattle.bitcode_untyped.proofs.EachLemmas.{each_if, each_append, each_flat_of}
 use Rattle.bitcode_untyped.proofs.PlaceLemmas.{same_place-true}
@@ -27,6 +27,7 @@ mutual
   sound_kind (tuple_tree ss) sound p q k h = sound_kind_at ss sound h.0 (field_place ss p h.0) q k h.1
   sound_kind (choice_tree ss) sound p q k (inl h) = subst IsSoundKind (sym h.1) (inl refl)
   sound_kind (choice_tree ss) sound p q k (inr h) = sound_kind_at ss sound h.0 (variant h.0 ∷ p) q k h.1
+  sound_kind (noted_tree note s) sound p q k h = sound_kind s sound.0 p q k h
 
   pub sound_kind_at : (ss : ShapeTrees) → AreSound ss → (j : ℕ) (p q : Place) (k : Kind) → HasKindAt ss j p q k → IsSoundKind k
   sound_kind_at no_trees sound j p q k h = absurd h
@@ -65,6 +66,7 @@ mutual
   entered (tuple_tree ss) p d h = entered_fields ss (field_place ss p) 0 (fields_in d) h.1
   entered (choice_tree ss) p d h =
       (index_entered d h.1, entered_variant ss (variant_in d) (variant (variant_in d) ∷ p) (payload_in d) h.2)
+  entered (noted_tree note s) p d h = entered s p d h.0
 
   pub entered_fields : (ss : ShapeTrees) (at : ℕ → Place) (i : ℕ) (ds : Data) → AreOf ss ds → AllByRecursion Entered (walk_fields ss at i ds)
   entered_fields no_trees at i ds h = tt

@@ -5,7 +5,7 @@ use Rattle.std.specs.List.{AllByRecursion}
 use Rattle.bitcode_shapes.specs.Datum.{Datum, Data, elements_in, first_of, rest_of, fields_in, first_in, second_in, variant_in, payload_in}
 use Rattle.bitcode_untyped.specs.PlacedColumns.{same_place, entries_at, PlacedColumn, without, columns}
 use Rattle.bitcode_untyped.specs.Population.{total, count_of, population}
-use Rattle.bitcode_untyped.specs.ShapeTree.{ShapeTree, unit_tree, never_tree, leaf_tree, seq_tree, map_tree, tuple_tree, choice_tree, ShapeTrees, no_trees, tree_and}
+use Rattle.bitcode_untyped.specs.ShapeTree.{ShapeTree, unit_tree, never_tree, leaf_tree, seq_tree, map_tree, tuple_tree, choice_tree, noted_tree, ShapeTrees, no_trees, tree_and}
 use Rattle.bitcode_untyped.specs.Walk.{element, key, value, variant, field, Place, Use, field_place, walk, walk_fields, walk_variant}
 use Rattle.bitcode_untyped.proofs.PlaceLemmas.{same_place-true, same_place-refl}
 
@@ -115,6 +115,7 @@ mutual
   )
   walk_grounded (tuple_tree ts) p d z g = walk_grounded_fields ts (field_place ts p) 0 (fields_in d) z (λ i. grounded_field z ts p i g)
   walk_grounded (choice_tree ts) p d z g = (g, walk_grounded_variant ts (variant_in d) (variant (variant_in d) ∷ p) (payload_in d) (also p z) (here_too z p))
+  walk_grounded (noted_tree note t) p d z g = walk_grounded t p d z g
 
   pub walk_grounded_fields : (ts : ShapeTrees) (at : ℕ → Place) (i : ℕ) (xs : Data) (z : Place → Bool) → ((i : ℕ) → GroundedBy z (at i))
       → GroundedWalk z (walk_fields ts at i xs)

@@ -4,7 +4,7 @@ use Rattle.std.proofs.lemmas.Bool.{cases_Bool}
 use Rattle.bitcode_shapes.specs.Datum.{Datum, Data, elements_in, first_of, rest_of, fields_in, first_in, second_in, variant_in, payload_in}
 use Rattle.bitcode_coder.specs.Columns.{Kind}
 use Rattle.bitcode_untyped.specs.PlacedColumns.{same_place, entries_at}
-use Rattle.bitcode_untyped.specs.ShapeTree.{ShapeTree, unit_tree, never_tree, leaf_tree, seq_tree, map_tree, tuple_tree, choice_tree, ShapeTrees, no_trees, tree_and, tree_at}
+use Rattle.bitcode_untyped.specs.ShapeTree.{ShapeTree, unit_tree, never_tree, leaf_tree, seq_tree, map_tree, tuple_tree, choice_tree, noted_tree, ShapeTrees, no_trees, tree_and, tree_at}
 use Rattle.bitcode_untyped.specs.Walk.{element, key, value, variant, field, Place, Use, use_at, length_kind, index_kind, field_place, walk, walk_fields, walk_variant}
 use Rattle.bitcode_untyped.proofs.PlaceLemmas.{same_place-true, entries-append, Under, Apart, under_step}
 
@@ -18,6 +18,7 @@ abbrev mutual
   Hosts (map_tree k v) p q = (q ≡ p) ⊎ (Hosts k (key ∷ p) q ⊎ Hosts v (value ∷ p) q)
   Hosts (tuple_tree ss) p q = (j : ℕ) × HostsAt ss j (field_place ss p j) q
   Hosts (choice_tree ss) p q = (q ≡ p) ⊎ ((j : ℕ) × HostsAt ss j (variant j ∷ p) q)
+  Hosts (noted_tree note s) p q = Hosts s p q
 
   pub HostsAt : ShapeTrees → ℕ → Place → Place → Type 0
   HostsAt no_trees j p q = ⊥
@@ -81,6 +82,7 @@ mutual
   hosted (choice_tree ts) p d q =
       none_or_first q p index_kind _ _ _ inl (none_or_if q _ _ _ (λ (h : HostsAt ts (variant_in d) (variant (variant_in d) ∷ p) q). inr (variant_in d, h))
       (hosted_variant ts (variant_in d) (variant (variant_in d) ∷ p) (payload_in d) q))
+  hosted (noted_tree note t) p d q = hosted t p d q
 
   pub hosted_fields : (ts : ShapeTrees) (at : ℕ → Place) (i : ℕ) (xs : Data) (q : Place)
       → NoneOr q (walk_fields ts at i xs) ((j : ℕ) × HostsAt ts j (at (i + j)) q)
@@ -114,6 +116,7 @@ mutual
   hosts_under (tuple_tree (tree_and t (tree_and u us))) p q h = under_step (field h.0) p q (hosts_under_at (tree_and t (tree_and u us)) h.0 (field h.0 ∷ p) q h.1)
   hosts_under (choice_tree ts) p q (inl h) = ([], h)
   hosts_under (choice_tree ts) p q (inr h) = under_step (variant h.0) p q (hosts_under_at ts h.0 (variant h.0 ∷ p) q h.1)
+  hosts_under (noted_tree note t) p q h = hosts_under t p q h
 
   pub hosts_under_at : (ts : ShapeTrees) (j : ℕ) (p q : Place) → HostsAt ts j p q → Under p q
   hosts_under_at no_trees j p q h = absurd h

@@ -6,7 +6,7 @@ use Rattle.bitcode_shapes.specs.Datum.{Datum, Data, elements_in, first_of, rest_
 use Rattle.bitcode_coder.specs.Columns.{Kind}
 use Rattle.bitcode_untyped.specs.PlaceKinds.{HasKindFrom, HasKindAt}
 use Rattle.bitcode_untyped.specs.PlacedColumns.{same_place, PlacedColumn, without, columns}
-use Rattle.bitcode_untyped.specs.ShapeTree.{ShapeTree, unit_tree, never_tree, leaf_tree, seq_tree, map_tree, tuple_tree, choice_tree, ShapeTrees, no_trees, tree_and}
+use Rattle.bitcode_untyped.specs.ShapeTree.{ShapeTree, unit_tree, never_tree, leaf_tree, seq_tree, map_tree, tuple_tree, choice_tree, noted_tree, ShapeTrees, no_trees, tree_and}
 use Rattle.bitcode_untyped.specs.Walk.{Step, element, key, value, variant, field, Place, Use, field_place, walk, walk_fields, walk_variant}
 use Rattle.bitcode_untyped.proofs.EachLemmas.{each_if, each_append, each_flat}
 use Rattle.bitcode_untyped.proofs.PlaceLemmas.{Under, append_same_tail, under_step, under_not_above}
@@ -39,6 +39,7 @@ mutual
     each_if (λ (u : Use). HasKindAt ss (variant_in d) (variant (variant_in d) ∷ p) u.place u.kind) (Kinded (choice_tree ss) p)
         (λ u h. inr (variant_in d, h)) _ (kinded_variant ss (variant_in d) (variant (variant_in d) ∷ p) (payload_in d)),
   )
+  kinded (noted_tree note s) p d = kinded s p d
 
   pub kinded_fields : (ss : ShapeTrees) (at : ℕ → Place) (i : ℕ) (xs : Data)
       → AllByRecursion (λ (u : Use). (j : ℕ) × HasKindAt ss j (at (i + j)) u.place u.kind) (walk_fields ss at i xs)
@@ -71,6 +72,7 @@ mutual
   kind_under (tuple_tree (tree_and s (tree_and t ts))) p q k h = under_step (field h.0) p q (kind_under_at (tree_and s (tree_and t ts)) h.0 (field h.0 ∷ p) q k h.1)
   kind_under (choice_tree ss) p q k (inl h) = ([], h.0)
   kind_under (choice_tree ss) p q k (inr h) = under_step (variant h.0) p q (kind_under_at ss h.0 (variant h.0 ∷ p) q k h.1)
+  kind_under (noted_tree note s) p q k h = kind_under s p q k h
 
   pub kind_under_at : (ss : ShapeTrees) (j : ℕ) (p q : Place) (k : Kind) → HasKindAt ss j p q k → Under p q
   kind_under_at no_trees j p q k h = absurd h
@@ -127,6 +129,7 @@ mutual
       same_step_below (variant h.0) (variant g.0) p q (kind_under_at ss h.0 (variant h.0 ∷ p) q k h.1) (kind_under_at ss g.0 (variant g.0 ∷ p) q l g.1) in
       let i : h.0 ≡ g.0 = cc in
       one_kind_at ss h.0 (variant h.0 ∷ p) q k l h.1 (subst (λ z. HasKindAt ss z (variant z ∷ p) q l) (sym i) g.1)
+  one_kind (noted_tree note s) p q k l h g = one_kind s p q k l h g
 
   pub one_kind_at : (ss : ShapeTrees) (j : ℕ) (p q : Place) (k l : Kind) → HasKindAt ss j p q k → HasKindAt ss j p q l → k ≡ l
   one_kind_at no_trees j p q k l h g = absurd h

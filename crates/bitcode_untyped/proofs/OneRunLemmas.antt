@@ -5,7 +5,7 @@ use Rattle.bitcode_shapes.specs.Datum.{Datum, no_data, datum_and, elements_in, f
 use Rattle.bitcode_coder.specs.Columns.{Kind}
 use Rattle.bitcode_coder.specs.Spelling.{natural}
 use Rattle.bitcode_untyped.specs.Runs.{Runs}
-use Rattle.bitcode_untyped.specs.ShapeTree.{ShapeTree, unit_tree, never_tree, leaf_tree, seq_tree, map_tree, tuple_tree, choice_tree, ShapeTrees, no_trees, tree_and, IsPair, IsOf, AreOf, IsOfVariant}
+use Rattle.bitcode_untyped.specs.ShapeTree.{ShapeTree, unit_tree, never_tree, leaf_tree, seq_tree, map_tree, tuple_tree, choice_tree, noted_tree, ShapeTrees, no_trees, tree_and, IsPair, IsOf, AreOf, IsOfVariant}
 use Rattle.bitcode_untyped.specs.Walk.{element, key, value, variant, Place, Use, use_at, length_kind, index_kind, field_place, walk, walk_fields, walk_variant}
 use Rattle.bitcode_untyped.proofs.DatumLemmas.{list_by_parts, tuple_by_parts, pair_by_parts, choice_by_parts}
 
@@ -88,6 +88,7 @@ module _ {S : Type 0} (T : S → Use → S → Type 0) (takes_one : TakesOne T) 
         let py' = subst (λ i. IsOfVariant ts i (payload_in y)) (sym e) py.2 in
         let k = one_run_variant ts (variant_in x) (variant (variant_in x) ∷ p) (payload_in x) (payload_in y) r.0 b c px.2 py' r.2 s'' in
         (choice_by_parts x y px.0 py.0 e k.0, k.1)
+    one_run (noted_tree note t) p x y a b c px py r s = one_run t p x y a b c px.0 py.0 r s
 
     pub one_run_fields : (ts : ShapeTrees) (at : ℕ → Place) (i : ℕ) → OneRun T (AreOf ts) (walk_fields ts at i)
     one_run_fields no_trees at i no_data no_data a b c px py r s = (refl, sym r ∙ s)

@@ -7,7 +7,7 @@ use Rattle.bitcode_shapes.specs.Datum.{Datum, no_data, datum_and, elements_in, f
 use Rattle.bitcode_coder.specs.Columns.{Kind}
 use Rattle.bitcode_coder.specs.Spelling.{natural}
 use Rattle.bitcode_untyped.specs.PlacedColumns.{entries_at}
-use Rattle.bitcode_untyped.specs.ShapeTree.{ShapeTree, unit_tree, never_tree, leaf_tree, seq_tree, map_tree, tuple_tree, choice_tree, ShapeTrees, no_trees, tree_and, IsPair, IsOf, AreOf, IsOfVariant}
+use Rattle.bitcode_untyped.specs.ShapeTree.{ShapeTree, unit_tree, never_tree, leaf_tree, seq_tree, map_tree, tuple_tree, choice_tree, noted_tree, ShapeTrees, no_trees, tree_and, IsPair, IsOf, AreOf, IsOfVariant}
 use Rattle.bitcode_untyped.specs.Walk.{element, key, value, variant, Place, Use, use_at, length_kind, index_kind, field_place, walk, walk_fields, walk_variant}
 use Rattle.bitcode_untyped.proofs.DatumLemmas.{list_by_parts, tuple_by_parts, pair_by_parts, choice_by_parts}
 use Rattle.bitcode_untyped.proofs.PlaceLemmas.{entries_here, entries-append}
@@ -167,6 +167,7 @@ module _ (z : Place → Bool) where
         let o = one_way_variant ss (variant_in x) (variant (variant_in x) ∷ p) (payload_in x) (payload_in y) t u px.2 py' b' in
         outcome_if _ _ _ _ (λ k. choice_by_parts x y px.0 py.0 i k)
         (subst (λ j. Outcome z (walk_variant ss (variant_in x) (variant (variant_in x) ∷ p) (payload_in x)) (walk_variant ss j (variant j ∷ p) (payload_in y)) (payload_in x ≡ payload_in y)) i o))
+    one_way (noted_tree note s) p x y t u px py a = one_way s p x y t u px.0 py.0 a
 
     pub one_way_fields : (ss : ShapeTrees) (at : ℕ → Place) (i : ℕ) → OneWay z (AreOf ss) (walk_fields ss at i)
     one_way_fields no_trees at i no_data no_data t u px py a = inl (tt, refl)

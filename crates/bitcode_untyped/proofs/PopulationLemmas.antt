@@ -11,7 +11,7 @@ use Rattle.bitcode_coder.specs.Spelling.{natural}
 use Rattle.bitcode_coder.specs.Transposition.{length_entry, variant_entry}
 use Rattle.bitcode_untyped.specs.PlacedColumns.{entries_at}
 use Rattle.bitcode_untyped.specs.Population.{total, count_of, population}
-use Rattle.bitcode_untyped.specs.ShapeTree.{ShapeTree, unit_tree, never_tree, leaf_tree, seq_tree, map_tree, tuple_tree, choice_tree, ShapeTrees, no_trees, tree_and, tree_at}
+use Rattle.bitcode_untyped.specs.ShapeTree.{ShapeTree, unit_tree, never_tree, leaf_tree, seq_tree, map_tree, tuple_tree, choice_tree, noted_tree, ShapeTrees, no_trees, tree_and, tree_at}
 use Rattle.bitcode_untyped.specs.Walk.{element, key, value, variant, field, Place, Use, use_at, length_kind, index_kind, walk, walk_fields, walk_variant}
 use Rattle.bitcode_untyped.proofs.DatumLemmas.{field_at}
 use Rattle.bitcode_untyped.proofs.PlaceLemmas.{entries_here, entries_other, entries-append, Under, apart_above, apart_beside, under_step, under_not_above}
@@ -222,6 +222,7 @@ mutual
         | inr k ↦ populated_at ts k.0 (variant k.0 ∷ p) M (chosen k.0 ds) (ap (count_of k.0) own.0 ∙ count_chosen k.0 ds)
             (λ r u. known r (under_step (variant k.0) p r u) ∙ variants_at ts p r k.0 u ds) q (hosts_tree_at ts k.0 (variant k.0 ∷ p) q k.1)
       ]
+  populated (noted_tree note t) p M ds n known q h = populated t p M ds n known q h
 
   pub populated_at : (ts : ShapeTrees) (j : ℕ) → Populated (tree_at ts j)
   populated_at no_trees j p M ds n known q h = absurd h

@@ -11,7 +11,7 @@ use Rattle.bitcode_untyped.specs.Bounds.{column_free, free_limit, IsLimited, IsL
 use Rattle.bitcode_untyped.specs.Machine.{State, start, Takes}
 use Rattle.bitcode_untyped.specs.Reads.{ReadsOne, ReadsMany, IsReadable, ReadsDatum, ReadsNoDatum, ReadsElements, IsReadablePair, pair_walk, ReadsPair, ReadsPairs, ReadsFields, ReadsNoFields}
 use Rattle.bitcode_untyped.specs.Runs.{Runs}
-use Rattle.bitcode_untyped.specs.ShapeTree.{ShapeTree, unit_tree, never_tree, leaf_tree, seq_tree, map_tree, tuple_tree, choice_tree, ShapeTrees, no_trees, tree_and, tree_at, IsList, IsPair, greatest_index, IsOf, IsOfVariant}
+use Rattle.bitcode_untyped.specs.ShapeTree.{Note, ShapeTree, unit_tree, never_tree, leaf_tree, seq_tree, map_tree, tuple_tree, choice_tree, noted_tree, ShapeTrees, no_trees, tree_and, tree_at, IsList, IsPair, IsAdmitted, greatest_index, IsOf, IsOfVariant}
 use Rattle.bitcode_untyped.specs.Spelling.{SpellsDatum}
 use Rattle.bitcode_untyped.specs.Walk.{element, key, value, variant, Place, Use, use_at, length_kind, index_kind, field_place, walk, walk_fields, walk_variant}
 use Rattle.bitcode_untyped.proofs.DatumLemmas.{pair_by_parts}
@@ -305,6 +305,21 @@ module _ (ss : ShapeTrees) (p : Place) (a : State) where
           );
           runs = subst (λ w. Runs Takes b w c) (walk_variant_at ss i (variant i ∷ p) (payload_in d)) run_i;
         })
+
+-- ---- notes
+
+module _ (note : Note) (s : ShapeTree) (p : Place) (a : State) where
+  pub noted_read : (d : Datum) (b : State) → IsAdmitted note d → ReadsDatum s p a d b → ReadsDatum (noted_tree note s) p a d b
+  noted_read d b admitted r = record { is = ((r.is.0, admitted), r.is.1); runs = r.runs }
+
+  pub noted_stuck : ReadsNoDatum s p a → ReadsNoDatum (noted_tree note s) p a
+  noted_stuck stuck d b r = stuck d b (record { is = (r.is.0.0, r.is.1); runs = r.runs })
+
+  -- the datum is not admitted
+  pub noted_refused : (d : Datum) (b : State) → ReadsDatum s p a d b → (IsAdmitted note d → ⊥) → ReadsNoDatum (noted_tree note s) p a
+  noted_refused d b t bad e c r =
+      let one = one_datum_read s p d e a b c t.is (r.is.0.0, r.is.1) t.runs r.runs in
+      bad (subst (IsAdmitted note) (sym one.0) r.is.0.1)
 
 -- ---- the whole input
 

@@ -6,7 +6,7 @@ use Rattle.bitcode_shapes.specs.Shape.{IsNumberWidth}
 use Rattle.bitcode_coder.specs.Columns.{Kind, bools, ints, floats, texts, IsSoundKind}
 use Rattle.bitcode_untyped.specs.Leaves.{Leaf, leaf_of_node}
 use Rattle.bitcode_untyped.specs.ShapeTree.{ShapeTree, IsSound, AreSound}
-use Rattle.bitcode_untyped.specs.View.{tree_by, tree_step, tree_of_leaf, trees_of, entry_tree, followed, tree_of}
+use Rattle.bitcode_untyped.specs.View.{tree_by, tree_step, tree_of_leaf, trees_of, entry_tree, followed, tree_of_node, tree_of}
 use Rattle.bitcode_untyped.specs.declared.shape.Shape.{Shape}
 use Rattle.bitcode_untyped.specs.declared.shape.ShapeNode.{ShapeNode}
 use Rattle.bitcode_untyped.specs.declared.shape.ShapeNode.TheOpen.{ShapeNode-F}
@@ -94,6 +94,9 @@ pub sound_followed : (left : ℕ) (table : List ShapeNode) (i : ℕ) → IsSound
 unfolding followed
 sound_followed zero table i = tt
 sound_followed (suc left) table i = sound_entry (followed left table) (sound_followed left table) table i
+
+pub sound_tree_of_node : (left : ℕ) (table : List ShapeNode) (n : ShapeNode) → IsSound (tree_of_node left table n)
+sound_tree_of_node left table n = sound_node (followed left table) (sound_followed left table) n
 
 pub sound_shape : (shape : Shape) → IsSound (tree_of shape)
 sound_shape shape = sound_followed _ shape.table.items shape.root

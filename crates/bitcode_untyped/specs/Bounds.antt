@@ -1,8 +1,9 @@
 -- How much a datum may hold, for its columns.
-use Rattle.std.specs.Prelude.{◌≡◌, ℕ, zero, suc, ◌+◌, ◌≤◌, Bool, true, false, ◌&&◌, length}
+use Rattle.std.specs.Prelude.{◌≡◌, ℕ, zero, suc, ◌+◌, ◌≤◌, true, length}
 use Rattle.std.specs.List.{AllByRecursion}
 use Rattle.bitcode_shapes.specs.Datum.{Datum, Data, list, tuple, choice, no_data, datum_and, list_of, first_of, rest_of, elements_in, fields_in, first_in, second_in, variant_in, payload_in}
-use Rattle.bitcode_untyped.specs.ShapeTree.{ShapeTree, ShapeTrees, unit_tree, never_tree, leaf_tree, seq_tree, map_tree, tuple_tree, choice_tree, no_trees, tree_and}
+pub use Rattle.bitcode_untyped.specs.ShapeTree.{column_free, all_free}
+use Rattle.bitcode_untyped.specs.ShapeTree.{ShapeTree, ShapeTrees, unit_tree, never_tree, leaf_tree, seq_tree, map_tree, tuple_tree, choice_tree, noted_tree, no_trees, tree_and}
 
 -- the elements and pairs of all lists and maps in it
 abbrev mutual
@@ -15,17 +16,6 @@ abbrev mutual
   pub element_counts : Data → ℕ
   element_counts no_data = 0
   element_counts (datum_and d ds) = element_count d + element_counts ds
-
--- its data have no entry in any column
-abbrev mutual
-  pub column_free : ShapeTree → Bool
-  column_free unit_tree = true
-  column_free (tuple_tree ss) = all_free ss
-  column_free _ = false
-
-  pub all_free : ShapeTrees → Bool
-  all_free no_trees = true
-  all_free (tree_and s ss) = column_free s && all_free ss
 
 -- how many elements or keys without a column are read, in one list or map
 abbrev pub free_limit : ℕ
@@ -45,6 +35,7 @@ abbrev mutual
       WithinFreeLimit k d × AllByRecursion (λ e. IsLimited k (first_in e) × IsLimited v (second_in e)) (elements_in d)
   IsLimited (tuple_tree ss) d = AreLimited ss (fields_in d)
   IsLimited (choice_tree ss) d = IsLimitedVariant ss (variant_in d) (payload_in d)
+  IsLimited (noted_tree note s) d = IsLimited s d
 
   pub AreLimited : ShapeTrees → Data → Type 0
   AreLimited no_trees ds = Unit {0}

@@ -1,19 +1,21 @@
 -- Worked rows: the columns of some data, and what is written for them, computed from the definitions.
-use Rattle.std.specs.Prelude.{◌≡◌, ℕ, zero, suc, false, negsuc, List, [], ◌∷◌, ◌++◌, replicate, refl}
+use Rattle.std.specs.Prelude.{◌≡◌, ℕ, zero, suc, false, negsuc, List, [], ◌∷◌, ◌++◌, length, nat_le, replicate, refl}
+use Rattle.std.proofs.lemmas.Bool.{false≢true}
 use Rattle.std.specs.Float.{binary32, binary64}
 use Rattle.bitcode_memory.specs.LittleEndian.{raw_text}
+use Rattle.bitcode_memory.specs.declared.error.Reason.TheVariants.{InvalidArrayVec}
 use Rattle.bitcode_columns.specs.Digits.{digits_text}
 use Rattle.bitcode_columns.specs.Tagged.{tagged_text}
 use Rattle.bitcode_columns.specs.ByteColumn.{byte_text}
 use Rattle.bitcode_columns.specs.BoolColumn.{bool_text}
 use Rattle.bitcode_columns.specs.IntColumn.{int_text}
 use Rattle.bitcode_float_columns.specs.FloatColumn.{split_text}
-use Rattle.bitcode_shapes.specs.Datum.{Datum, number, unit, text, list, tuple, choice, pair, data_of}
+use Rattle.bitcode_shapes.specs.Datum.{Datum, number, unit, text, list, tuple, choice, pair, data_of, elements_in}
 use Rattle.bitcode_coder.specs.Columns.{bools, ints}
 use Rattle.bitcode_coder.specs.LengthColumn.{length_bytes}
 use Rattle.bitcode_coder.specs.TextColumn.{texts_bytes}
 use Rattle.bitcode_coder.specs.Spelling.{natural}
-use Rattle.bitcode_untyped.specs.ShapeTree.{ShapeTree, IsOf, unit_tree, never_tree, seq_tree, map_tree, tuple_tree, choice_tree, bool_tree, natural_tree, integer_tree, float_tree, char_tree, text_tree, option_tree}
+use Rattle.bitcode_untyped.specs.ShapeTree.{any_order, admits, ShapeTree, IsOf, unit_tree, never_tree, seq_tree, map_tree, tuple_tree, choice_tree, noted_tree, bool_tree, natural_tree, integer_tree, float_tree, char_tree, text_tree, option_tree}
 use Rattle.bitcode_untyped.specs.View.{trees_of}
 use Rattle.bitcode_untyped.specs.Walk.{element, field, length_kind}
 use Rattle.bitcode_untyped.specs.PlacedColumns.{columns_of}
@@ -123,6 +125,22 @@ greatest_index_text = refl
 no_elements_text : datum_text (seq_tree (enum_tree [])) (seq []) ≡ 0 ∷ []
 unfolding length_bytes int_text byte_text tagged_text digits_text raw_text
 no_elements_text = refl
+
+-- ---- notes: they say which data there are, and change nothing that is written
+
+abbrev small_list_tree : ShapeTree
+small_list_tree = noted_tree (admits (λ d. nat_le (length (elements_in d)) 2) InvalidArrayVec) (seq_tree (natural_tree 1))
+
+noted_text : datum_text small_list_tree (seq (natural 1 ∷ natural 2 ∷ [])) ≡ datum_text (seq_tree (natural_tree 1)) (seq (natural 1 ∷ natural 2 ∷ []))
+noted_text = refl
+
+unordered_text : datum_text (noted_tree any_order (seq_tree (natural_tree 1))) (seq (natural 2 ∷ natural 1 ∷ []))
+    ≡ datum_text (seq_tree (natural_tree 1)) (seq (natural 2 ∷ natural 1 ∷ []))
+unordered_text = refl
+
+-- at most two elements
+past_the_check : IsOf small_list_tree (seq (natural 1 ∷ natural 2 ∷ natural 3 ∷ [])) → ⊥
+past_the_check h = false≢true h.1
 
 -- ---- elements without a column: a length, whatever the limit on reading is
 

@@ -1,10 +1,18 @@
 -- A shape with its references followed away is a tree, and says which data are of it.
-use Rattle.std.specs.Prelude.{◌≡◌, ℕ, zero, suc, ◌≤◌, None, true, false}
+use Rattle.std.specs.Prelude.{◌≡◌, ℕ, zero, suc, ◌≤◌, Bool, None, true, false, ◌&&◌}
 use Rattle.std.specs.Float.{Format}
 use Rattle.std.specs.List.{AllByRecursion}
+use Rattle.bitcode_memory.specs.declared.error.Reason.{Reason}
 use Rattle.bitcode_shapes.specs.Datum.{Datum, Data, unit, list, tuple, choice, no_data, datum_and, data_of, pair, number_in, elements_in, fields_in, first_in, second_in, variant_in, payload_in}
 use Rattle.bitcode_shapes.specs.Shape.{Allowed, any_number, scalar, IsAllowed}
 use Rattle.bitcode_coder.specs.Columns.{Kind, bools, ints, floats, texts, IsEntryOf, IsSoundKind}
+
+-- what a type says of its data beyond their columns
+pub data Note : Type 0 where
+  -- the order of the elements says nothing
+  any_order : Note
+  -- a check admits the datum, or it is refused for the reason
+  admits : (Datum → Bool) → Reason → Note
 
 mutual
   pub data ShapeTree : Type 0 where
@@ -20,6 +28,8 @@ mutual
     tuple_tree : ShapeTrees → ShapeTree
     -- one of several variants, each with a payload
     choice_tree : ShapeTrees → ShapeTree
+    -- the columns of a tree, with a note
+    noted_tree : Note → ShapeTree → ShapeTree
 
   pub data ShapeTrees : Type 0 where
     no_trees : ShapeTrees
@@ -70,6 +80,11 @@ IsChoice d = d ≡ choice (variant_in d) (payload_in d)
 abbrev pub IsPair : (Datum → Type 0) → (Datum → Type 0) → Datum → Type 0
 IsPair IsFirst IsSecond d = (d ≡ pair (first_in d) (second_in d)) × IsFirst (first_in d) × IsSecond (second_in d)
 
+-- the note admits the datum
+abbrev pub IsAdmitted : Note → Datum → Type 0
+IsAdmitted any_order d = Unit {0}
+IsAdmitted (admits check reason) d = check d ≡ true
+
 -- the index of a variant is one byte
 abbrev pub greatest_index : ℕ
 greatest_index = 255
@@ -84,6 +99,7 @@ abbrev mutual
   IsOf (map_tree k v) d = IsList d × AllByRecursion (IsPair (IsOf k) (IsOf v)) (elements_in d)
   IsOf (tuple_tree ss) d = IsTuple d × AreOf ss (fields_in d)
   IsOf (choice_tree ss) d = IsChoice d × (variant_in d ≤ greatest_index) × IsOfVariant ss (variant_in d) (payload_in d)
+  IsOf (noted_tree note s) d = IsOf s d × IsAdmitted note d
 
   -- as many data, each of its shape
   pub AreOf : ShapeTrees → Data → Type 0
@@ -98,7 +114,20 @@ abbrev mutual
   IsOfVariant (tree_and s ss) zero d = IsOf s d
   IsOfVariant (tree_and s ss) (suc i) d = IsOfVariant ss i d
 
--- ---- the kinds in it are of columns that there are
+-- ---- its data have no entry in any column
+
+abbrev mutual
+  pub column_free : ShapeTree → Bool
+  column_free unit_tree = true
+  column_free (tuple_tree ss) = all_free ss
+  column_free (noted_tree note s) = column_free s
+  column_free _ = false
+
+  pub all_free : ShapeTrees → Bool
+  all_free no_trees = true
+  all_free (tree_and s ss) = column_free s && all_free ss
+
+-- ---- the kinds in it are of columns that there are, and a note is of data with a column
 
 abbrev mutual
   pub IsSound : ShapeTree → Type 0
@@ -109,6 +138,7 @@ abbrev mutual
   IsSound (map_tree k v) = IsSound k × IsSound v
   IsSound (tuple_tree ss) = AreSound ss
   IsSound (choice_tree ss) = AreSound ss
+  IsSound (noted_tree note s) = IsSound s × (column_free s ≡ false)
 
   pub AreSound : ShapeTrees → Type 0
   AreSound no_trees = Unit {0}

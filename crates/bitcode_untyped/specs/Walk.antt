@@ -5,7 +5,7 @@ use Rattle.std.specs.List.{flat_map}
 use Rattle.bitcode_shapes.specs.Datum.{Datum, Data, first_of, rest_of, fields_in, elements_in, first_in, second_in, variant_in, payload_in}
 use Rattle.bitcode_coder.specs.Columns.{Kind, ints, lengths}
 use Rattle.bitcode_coder.specs.Transposition.{length_entry, variant_entry}
-use Rattle.bitcode_untyped.specs.ShapeTree.{ShapeTree, ShapeTrees, unit_tree, never_tree, leaf_tree, seq_tree, map_tree, tuple_tree, choice_tree, no_trees, tree_and}
+use Rattle.bitcode_untyped.specs.ShapeTree.{ShapeTree, ShapeTrees, unit_tree, never_tree, leaf_tree, seq_tree, map_tree, tuple_tree, choice_tree, noted_tree, no_trees, tree_and}
 
 -- from a value to a part of it
 pub data Step : Type 0 where
@@ -50,6 +50,7 @@ abbrev mutual
       use_at p length_kind (length_entry d) ∷ flat_map (λ e. walk k (key ∷ p) (first_in e) ++ walk v (value ∷ p) (second_in e)) (elements_in d)
   walk (tuple_tree ss) p d = walk_fields ss (field_place ss p) 0 (fields_in d)
   walk (choice_tree ss) p d = use_at p index_kind (variant_entry d) ∷ walk_variant ss (variant_in d) (variant (variant_in d) ∷ p) (payload_in d)
+  walk (noted_tree note s) p d = walk s p d
 
   -- fields from the i-th on
   pub walk_fields : ShapeTrees → (ℕ → Place) → ℕ → Data → List Use

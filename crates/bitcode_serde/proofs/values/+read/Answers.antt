@@ -16,6 +16,7 @@ use Rattle.bitcode_untyped.specs.declared.shape.ShapeNode.TheVariants as node
 use Rattle.bitcode_untyped.proofs.FaultLemmas.{faults-Unit, faults-None, faults-Some, faults-Seq, faults-Tuple}
 use Rattle.bitcode_untyped.proofs.FollowedLemmas.{followed-zero, followed_one, entry_there, entry_away}
 use Rattle.bitcode_untyped.proofs.ReadLemmas.{never_read, seq_stuck_length, seq_over_limit, choice_stuck_index}
+use Rattle.bitcode_untyped.proofs.SoundTreeLemmas.{sound_tree_of_node}
 use Rattle.bitcode_untyped.proofs.ViewLemmas.{tree-Unit, tree-Bytes, tree-Option, tree-Seq, tree-Map, tree-Tuple, tree-Enum, tree-Ref, datum-None, datum-Some, datum-Seq, datum-Tuple, datum-Enum}
 use Rattle.bitcode_coder.specs.Spelling.{natural}
 use Rattle.bitcode_serde.specs.Budget.{IsLeft, spend}
@@ -193,7 +194,8 @@ read_elements-returns-then-is_free-clause-read t c =
     let free : column_free tree ≡ true = sym c.is_free.ensures ∙ c.if-is_free.true in
     let all : i + (c.args.count - i) ≡ c.args.count = omega arith in
     let so_far = subst (λ b. ReadsListWithin tree c.args.place c.args.reader.now c.args.budget.now i c.loop-i.values.items c.loop-i.reader b) gone c.loop-i.invariant.1 in
-    let rest = rest_within tree c.args.place c.args.reader.now c.loop-i.reader c.args.budget.now c.loop-i.values.items (c.args.count - i) i c.loop-i.invariant.0 free so_far in
+    let rest = rest_within tree c.args.place c.args.reader.now c.loop-i.reader c.args.budget.now c.loop-i.values.items (c.args.count - i) i c.loop-i.invariant.0
+    (sound_tree_of_node c.args.left c.args.table.now c.args.node.now) free so_far in
     subst (λ b. ReadsListWithin tree c.args.place c.args.reader.now c.args.budget.now c.args.count c.loop-i.values.items c.loop-i.reader b) (sym gone)
     (subst (λ n. ReadsListWithin tree c.args.place c.args.reader.now c.args.budget.now n c.loop-i.values.items c.loop-i.reader Spent) all rest)
 
@@ -391,7 +393,8 @@ read_tuple-loop-i-init t c =
       record { steady = c.requires.steady; asked = asked_alike c.args.reader.now; kept = λ i p at. at },
       fields_on at_node c.args.nodes.now c.args.place c.args.reader.now c.args.reader.now c.take.new.self c.take.new.self c.in_ok-values.values.items 0 c.next_field-i.result
           (record { steady = c.requires.steady; asked = asked_alike c.args.reader.now; kept = λ i p at. at })
-          c.next_field-i.ensures.inside.0 c.next_field-i.ensures.inside.1 c.next_field-i.ensures.kept c.next_field-i.ensures.free
+          c.next_field-i.ensures.inside.0 c.next_field-i.ensures.inside.1 c.next_field-i.ensures.kept
+          (sound_tree_of_node c.args.left c.args.table.now) c.next_field-i.ensures.free
           (record {
             listing = [];
             read = no_fields at_node c.args.nodes.now c.args.place c.args.reader.now;
@@ -430,7 +433,8 @@ read_tuple-loop-i-preserved t c =
       fields_on at_node c.args.nodes.now c.args.place c.args.reader.now c.read_field.new.reader c.take.new.self c.read_field.new.budget c.read_field.new.values.items
           (c.loop-i.i + 1) c.next_field-i-in-loop-i.result
           (continues_on c.args.reader.now c.loop-i.reader c.read_field.new.reader c.loop-i.invariant.0 c.in_ok-met.ensures.continues)
-          c.next_field-i-in-loop-i.ensures.inside.0 c.next_field-i-in-loop-i.ensures.inside.1 c.next_field-i-in-loop-i.ensures.kept c.next_field-i-in-loop-i.ensures.free
+          c.next_field-i-in-loop-i.ensures.inside.0 c.next_field-i-in-loop-i.ensures.inside.1 c.next_field-i-in-loop-i.ensures.kept
+          (sound_tree_of_node c.args.left c.args.table.now) c.next_field-i-in-loop-i.ensures.free
           (keeps_more datum_of _ _ c.take.new.self c.loop-i.budget c.read_field.new.budget c.loop-i.values.items c.read_field.new.values.items one.value one.read.datum many
           (one_more_field at_node c.args.nodes.now c.args.place c.args.reader.now c.loop-i.reader c.loop-i.i
           c.index-nodes-i.result many.listing c.loop-i.invariant.0 there many.read one.read.datum
@@ -445,8 +449,8 @@ read_tuple-loop-i-preserved t c =
 pub read_field-returns-then-is_spent-clause-read : goal.read_field-returns-then-is_spent-clause-read
 read_field-returns-then-is_spent-clause-read t c =
     let free : column_free (tree_of_node c.args.left c.args.table.now c.args.node.now) ≡ true = sym c.lacks_columns.ensures ∙ c.if-lacks_columns.true in
-    field_skipped (tree_of_node c.args.left c.args.table.now c.args.node.now) c.args.place c.args.i c.args.fields free _ c.args.reader.now c.args.budget.now c.args.values.now.items
-    c.if-is_spent.ensures
+    field_skipped (tree_of_node c.args.left c.args.table.now c.args.node.now) c.args.place c.args.i c.args.fields free
+    (sound_tree_of_node c.args.left c.args.table.now c.args.node.now) _ c.args.reader.now c.args.budget.now c.args.values.now.items c.if-is_spent.ensures
 
 pub read_field-returns-then-lacks_columns-clause-read : goal.read_field-returns-then-lacks_columns-clause-read
 read_field-returns-then-lacks_columns-clause-read t c =

@@ -13,6 +13,7 @@ use Rattle.bitcode_untyped.specs.Walk.{length_kind}
 use Rattle.bitcode_untyped.specs.declared.value.Value.TheVariants as value
 use Rattle.bitcode_untyped.proofs.FaultLemmas.{faults-Map}
 use Rattle.bitcode_untyped.proofs.ReadLemmas.{map_stuck_length, map_over_limit}
+use Rattle.bitcode_untyped.proofs.SoundTreeLemmas.{sound_tree_of_node}
 use Rattle.bitcode_untyped.proofs.ViewLemmas.{datum-Map}
 use Rattle.bitcode_coder.specs.Spelling.{natural}
 use Rattle.bitcode_serde.specs.Budget.{IsLeft, spend, KeepsEach}
@@ -170,7 +171,8 @@ read_map-returns-then-is_free-2-clause-read t c =
     let so_far = subst (KeepsEach (λ e. pair (datum_of e.0) (datum_of e.1))
     (λ ds. ReadsPairsAt key_tree value_tree c.in_ok-keys.keys c.in_ok-values.values c.step-2.new.self i ds c.loop-i.reader) c.take.new.self c.loop-i.pairs.items) gone c.loop-i.invariant.1 in
     let rest = rest_pairs_within (λ e. pair (datum_of e.0) (datum_of e.1)) key_tree value_tree c.in_ok-keys.keys c.in_ok-values.values c.step-2.new.self c.loop-i.reader c.take.new.self
-    c.loop-i.pairs.items (value.Unit, value.Unit) (c.in_ok-taken.taken.length - i) i c.loop-i.invariant.0 free_key free_value so_far in
+    c.loop-i.pairs.items (value.Unit, value.Unit) (c.in_ok-taken.taken.length - i) i c.loop-i.invariant.0 (sound_tree_of_node c.args.left c.args.table.now c.args.key.now)
+    (sound_tree_of_node c.args.left c.args.table.now c.args.value.now) free_key free_value so_far in
     let k = subst (KeepsEach (λ e. pair (datum_of e.0) (datum_of e.1))
     (λ ds. ReadsPairsAt key_tree value_tree c.in_ok-keys.keys c.in_ok-values.values c.step-2.new.self c.in_ok-taken.taken.length ds c.loop-i.reader) c.take.new.self c.loop-i.pairs.items) (sym gone)
     (subst (λ n. KeepsEach (λ e. pair (datum_of e.0) (datum_of e.1))
