@@ -1,7 +1,7 @@
 //! Types that are written as, and made from, pairs of keys and values.
 ghost use Rattle.std.specs.Prelude.{◌≡◌, ◌<◌, ◌≤◌, ◌++◌, ◌⊎◌, List, length, map, take, All, refl, OnOk, IfOk, IfErr};
 ghost use Rattle.std.specs.Map.{keys_of, values_of};
-ghost use Rattle.std.specs.Map.Iter.{deref_pair};
+ghost use Rattle.std.specs.Map.Iter.{TakesFirst, deref_pair};
 ghost use Rattle.std.proofs.lemmas.List.Sorted.{IsPermutation-refl};
 ghost use Rattle.bitcode_shapes.specs.Datum.{Datum};
 ghost use Rattle.bitcode_shapes.specs.Shape.{map_shape};
@@ -134,23 +134,48 @@ impl<'a, K, V> Part<(&'a K, &'a V), V> for ValueBehind {
     }
 }
 
+// An iterator that lends pairs of keys and values. Its contract knows the list of the remaining ones.
+trait LendsPairs<'b, K, V>: Drop {
+    ghost rest: { Self → List (K × V) };
+
+    // The next pair.
+    fn lend_pair(&mut self) -> Option<(&'b K, &'b V)>
+        ensures next { TakesFirst deref_pair (rest self.old) result (rest self.new) };
+}
+
+impl<'b, K, V> LendsPairs<'b, K, V> for btree_map::Iter<'b, K, V> {
+    ghost rest = { λ l. l };
+
+    fn lend_pair(&mut self) -> Option<(&'b K, &'b V)> {
+        self.next()
+    }
+}
+
+impl<'b, K, V> LendsPairs<'b, K, V> for hash_map::Iter<'b, K, V> {
+    ghost rest = { λ l. l };
+
+    fn lend_pair(&mut self) -> Option<(&'b K, &'b V)> {
+        self.next()
+    }
+}
+
 // So many pairs of a map are gathered, and their keys and values written at once.
 const MOST_PAIRS: usize = 32;
 
-// Takes pairs of a map and puts them after the first ones of the array, until the array is full or none is left.
+// Takes pairs that are lent and puts them after the first ones of the array, until the array is full or none is left.
 // Returns how many the array then has.
-fn gather_pairs<'b, K, V>(
-    rest: &mut btree_map::Iter<'b, K, V>,
+fn gather_pairs<'b, K, V, L: LendsPairs<'b, K, V>>(
+    lent: &mut L,
     pairs: &mut [(&'b K, &'b V); MOST_PAIRS],
 ) -> usize
     requires { length pairs.old ≡ MOST_PAIRS }
     ensures count { (0 < result) × (result ≤ MOST_PAIRS) }
     ensures size { length pairs.new ≡ MOST_PAIRS }
-    ensures taken { map deref_pair (take 1 pairs.old) ++ rest.old ≡ map deref_pair
-        (take result pairs.new) ++ rest.new }
+    ensures taken { map deref_pair (take 1 pairs.old) ++ L.rest lent.old ≡ map deref_pair
+        (take result pairs.new) ++ L.rest lent.new }
 {
     for count in 1..MOST_PAIRS {
-        match rest.next() {
+        match lent.lend_pair() {
             Some(pair) => pairs[count] = pair,
             None => return count,
         }
@@ -158,31 +183,37 @@ fn gather_pairs<'b, K, V>(
     MOST_PAIRS
 }
 
-// Writes the keys and values of the remaining pairs, several of them at once. The caller must have reserved the room.
-fn encode_gathered<'b, K: Shaped + 'b, V: Shaped + 'b, E: Encoder<K>, F: Encoder<V>>(
-    mut rest: btree_map::Iter<'b, K, V>,
-    keys: &mut E,
-    values: &mut F,
-) -> Result<(), Error>
-    requires room { (length rest ≤ E.room keys.old) × (length rest ≤ F.room values.old) }
-    requires are { (All K.data.is_value (keys_of rest)) × (All V.data.is_value (values_of rest)) }
+// Writes the keys and values of the pairs that are lent, several of them at once. The caller must have reserved the
+// room.
+fn encode_gathered<
+    'b,
+    K: Shaped + 'b,
+    V: Shaped + 'b,
+    L: LendsPairs<'b, K, V>,
+    E: Encoder<K>,
+    F: Encoder<V>,
+>(mut lent: L, keys: &mut E, values: &mut F) -> Result<(), Error>
+    requires room { (length (L.rest lent) ≤ E.room keys.old)
+        × (length (L.rest lent) ≤ F.room values.old) }
+    requires are { (All K.data.is_value (keys_of (L.rest lent)))
+        × (All V.data.is_value (values_of (L.rest lent))) }
     ensures keys { OnOk result
-        (JoinsEach K.data.lists K.data.shape (keys_of rest.entry) (E.columns keys.old)
+        (JoinsEach K.data.lists K.data.shape (keys_of (L.rest lent)) (E.columns keys.old)
         (E.columns keys.new)) }
     ensures values { OnOk result
-        (JoinsEach V.data.lists V.data.shape (values_of rest.entry) (F.columns values.old)
+        (JoinsEach V.data.lists V.data.shape (values_of (L.rest lent)) (F.columns values.old)
         (F.columns values.new)) }
     ensures form { (emptied (E.columns keys.new) ≡ emptied (E.columns keys.old))
         × (emptied (F.columns values.new) ≡ emptied (F.columns values.old)) }
     ensures refused { IfErr result
         (λ e. IsWritingRefusal e.reason
-        (OverflowsWithEach K.data.lists K.data.shape (keys_of rest.entry) (E.columns keys.old)
-        ⊎ OverflowsWithEach V.data.lists V.data.shape (values_of rest.entry)
+        (OverflowsWithEach K.data.lists K.data.shape (keys_of (L.rest lent)) (E.columns keys.old)
+        ⊎ OverflowsWithEach V.data.lists V.data.shape (values_of (L.rest lent))
         (F.columns values.old))) }
 {
-    while let Some(first) = rest.next() {
+    while let Some(first) = lent.lend_pair() {
         let mut pairs = [first; MOST_PAIRS];
-        let count = gather_pairs(&mut rest, &mut pairs);
+        let count = gather_pairs(&mut lent, &mut pairs);
         keys.encode_part_of_each(&pairs[..count], &KeyBehind, first.0)?;
         values.encode_part_of_each(&pairs[..count], &ValueBehind, first.1)?;
     }
@@ -240,6 +271,14 @@ impl<K: Key + Hash, V: Shaped> Mapping for HashMap<K, V> {
 
     fn encode_values<E: Encoder<V>>(&self, values: &mut E) -> Result<(), Error> {
         encode_lent(values, self.values())
+    }
+
+    fn encode_pairs<E: Encoder<K>, F: Encoder<V>>(
+        &self,
+        keys: &mut E,
+        values: &mut F,
+    ) -> Result<(), Error> {
+        encode_gathered(self.iter(), keys, values)
     }
 
     ghost entries_are = { λ t h. h.each };
