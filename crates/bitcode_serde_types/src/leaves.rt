@@ -19,6 +19,7 @@ use bitcode_memory::error::Error;
 use bitcode_serde::case::Case;
 use bitcode_serde::write_column::Entry;
 use bitcode_serde::writer::Writer;
+use std::mem::forget;
 
 // Writes a number or a bool: an entry of the column of its case.
 #[inline(always)]
@@ -28,7 +29,10 @@ fn write_leaf<T: Case + Copy>(leaf: &T, writer: &mut Writer, place: usize) -> Re
         (datum_of (T.holder leaf.now)) [] result writer.new }
 {
     let value = (*leaf).into_value();
-    writer.put_one(place, T::column(), &value)
+    let put = writer.put_one(place, T::column(), &value);
+    // It owns no memory, so nothing needs to be dropped.
+    forget(value);
+    put
 }
 
 /// Writes a text.
