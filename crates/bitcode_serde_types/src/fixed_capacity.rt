@@ -64,15 +64,15 @@ impl<T: SerializeAs, const N: usize> SerializeAs for ArrayVec<T, N> {
     }
 }
 
-// A vector of the values, as far as they fit.
-fn that_fit<T: Default + Drop, const N: usize>(values: Vec<T>) -> ArrayVec<T, N>
+// A vector of the values if they fit, and else an empty one.
+fn if_they_fit<T: Default + Drop, const N: usize>(values: Vec<T>) -> ArrayVec<T, N>
     ensures { length values.items ≤ N → result.items ≡ values.items }
 {
     let mut vec = ArrayVec::new();
+    if values.len() > N {
+        return vec;
+    }
     for value in values {
-        if vec.is_full() {
-            return vec;
-        }
         vec.push(value);
     }
     vec
@@ -96,6 +96,6 @@ impl<'a, T: DeserializeAs<'a> + Default, const N: usize> DeserializeAs<'a> for A
             otherwise: Reason::InvalidArrayVec,
         };
         let values: Vec<T> = read_limited(alloc, reader, budget, left, place, limits)?;
-        Ok(that_fit(values))
+        Ok(if_they_fit(values))
     }
 }
