@@ -1,8 +1,9 @@
 -- Shapes with a note: what is written and read of the shape in it, and what the note refuses.
-use Rattle.std.proofs.Common.{◌≡◌, ◌⊎◌, inl, inr, ℕ, ◌≤◌, ◌<◌, true, List, length, map, refl, ap, sym, subst, arith}
+use Rattle.std.proofs.Common.{◌≡◌, ◌⊎◌, inl, inr, ℕ, ◌≤◌, ◌<◌, true, List, length, map, refl, ap, sym, subst, ◌∙◌, arith}
 use Rattle.std.specs.Prelude.{Result, Ok, Err, nat_le}
 use Rattle.std.specs.List.Sorted.{IsPermutation}
 use Rattle.std.proofs.lemmas.Bool.{and_from, and_parts, le-leb, leb-true}
+use Rattle.std.proofs.lemmas.List.{length-map}
 use Rattle.std.proofs.lemmas.List.Sorted.{IsPermutation-map}
 use Rattle.bitcode_memory.specs.declared.error.Error.{Error}
 use Rattle.bitcode_memory.specs.declared.error.Reason.{Reason}
@@ -23,6 +24,8 @@ use Rattle.bitcode_serde.specs.Serializing.{Outcome}
 use Rattle.bitcode_serde.specs.declared.budget.Budget.{Budget}
 use Rattle.bitcode_serde.specs.declared.reader.Reader.{Reader}
 use Rattle.bitcode_serde.specs.declared.writer.state.Writer.{Writer}
+use Rattle.bitcode_serde.proofs.SerializeLemmas.{listed}
+use Rattle.bitcode_serde_types.specs.DeepFaults.{deep_faults}
 use Rattle.bitcode_serde_types.specs.Heaps.{heap_tree}
 use Rattle.bitcode_serde_types.specs.Limited.{is_within, has_length, limited_tree, fits_in, array_string_tree}
 use Rattle.bitcode_serde_types.specs.Lists.{list_datum}
@@ -98,6 +101,16 @@ module _ (s : ShapeTree) {old mid : Reader} {place inside n : ℕ} (least most :
     same = k.same;
   }
 
+pub limited_written : {A B : Type 0} (s : ShapeTree) (f : A → Datum) (least most : ℕ) (reason : Reason) (old : Writer) (n : ℕ) (xs ys : List A)
+    (r : Result B Error) (new : Writer) → xs ≡ ys → least ≤ length ys → length ys ≤ most
+    → Outcome old (seq_tree s) n (list_datum f xs) (deep_faults (seq_tree s) (list_datum f xs)) r new
+    → Outcome old (limited_tree least most reason s) n (list_datum f ys) (deep_faults (seq_tree s) (list_datum f ys)) r new
+limited_written s f least most reason old n xs ys r new same low high o =
+    let size : length ys ≡ length (elements_in (list_datum f ys)) = sym (ap length (listed (map f ys)) ∙ length-map f ys) in
+    noted_written (has_length least most reason) (seq_tree s) old n (list_datum f ys) (deep_faults (seq_tree s) (list_datum f ys)) r new
+    (subst (λ m. is_within least most m ≡ true) size (within least most (length ys) low high))
+    (subst (λ zs. Outcome old (seq_tree s) n (list_datum f zs) (deep_faults (seq_tree s) (list_datum f zs)) r new) same o)
+
 -- ---- texts of limited length
 
 module _ (capacity place : ℕ) (old new : Reader) (bytes : List ℕ) (read : ReadsAt text_tree place old (text bytes) new) where
@@ -119,6 +132,13 @@ module _ (capacity place : ℕ) (old new : Reader) (bytes : List ℕ) (read : Re
   )
 
 -- ---- heaps
+
+pub heap_written : {A B : Type 0} (s : ShapeTree) (f : A → Datum) (old : Writer) (n : ℕ) (xs ys : List A) (r : Result B Error) (new : Writer) → xs ≡ ys
+    → Outcome old (seq_tree s) n (list_datum f xs) (deep_faults (seq_tree s) (list_datum f xs)) r new
+    → Outcome old (heap_tree s) n (list_datum f ys) (deep_faults (seq_tree s) (list_datum f ys)) r new
+heap_written s f old n xs ys r new same o =
+    noted_written any_order (seq_tree s) old n (list_datum f ys) (deep_faults (seq_tree s) (list_datum f ys)) r new tt
+    (subst (λ zs. Outcome old (seq_tree s) n (list_datum f zs) (deep_faults (seq_tree s) (list_datum f zs)) r new) same o)
 
 pub heap_kept : {A B : Type 0} (f : A → Datum) (s : ShapeTree) (place : ℕ) (old new : Reader) (before after : Budget) (values : B → List A) (b : B) {C : Type 0}
     (items : C → List A) (c : C) → IsPermutation (values b) (items c) → ReadsAs (λ b. list_datum f (values b)) (seq_tree s) place old before b new after
