@@ -106,7 +106,7 @@ pub limited_written : {A B : Type 0} (s : ShapeTree) (f : A → Datum) (least mo
     → Outcome old (seq_tree s) n (list_datum f xs) (deep_faults (seq_tree s) (list_datum f xs)) r new
     → Outcome old (limited_tree least most reason s) n (list_datum f ys) (deep_faults (seq_tree s) (list_datum f ys)) r new
 limited_written s f least most reason old n xs ys r new same low high o =
-    let size : length ys ≡ length (elements_in (list_datum f ys)) = sym (ap length (listed (map f ys)) ∙ length-map f ys) in
+    let size : length ys ≡ length (elements_in (list_datum f ys)) = sym (ap length (listed (map f ys)) ∙ length-map ys f) in
     noted_written (has_length least most reason) (seq_tree s) old n (list_datum f ys) (deep_faults (seq_tree s) (list_datum f ys)) r new
     (subst (λ m. is_within least most m ≡ true) size (within least most (length ys) low high))
     (subst (λ zs. Outcome old (seq_tree s) n (list_datum f zs) (deep_faults (seq_tree s) (list_datum f zs)) r new) same o)

@@ -70,6 +70,6 @@ returns-then-is_free-clause-read g c =
     let all : l._i + (c.args.list.count - l._i) ≡ c.args.list.count = omega arith in
     let so_far = subst (ReadsEachAs datum s place old c.args.budget.now l._i l.values.items l.reader) gone l.invariant.0.1 in
     let rest = rest_kept datum s place old l.reader c.args.budget.now l.values.items (c.args.list.count - l._i) l._i l.invariant.0.0
-    (g.met.T.SerializeAs.sound c.args.left) free so_far in
+    (g.T.SerializeAs.sound c.args.left) free so_far in
     subst (ReadsEachAs datum s place old c.args.budget.now c.args.list.count l.values.items l.reader) (sym gone)
     (subst (λ n. ReadsEachAs datum s place old c.args.budget.now n l.values.items l.reader Spent) all rest)

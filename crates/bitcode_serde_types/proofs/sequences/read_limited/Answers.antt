@@ -33,6 +33,17 @@ returns-in_err-values-clause-refused g c =
     (seq_refused s c.args.reader.now c.enter_list.new.reader c.args.place c.in_ok-list.list.place c.in_ok-list.list.count _ c.in_ok-list.ensures.enters
     c.in_err-values.ensures.refused))
 
+pub returns-then-list-limits-clause-refused : goal.returns-then-list-limits-clause-refused
+returns-then-list-limits-clause-refused g c =
+    let s = g.T.SerializeAs.tree c.args.left in
+    let l = c.args.limits in
+    passed_on (λ e. IsRefusalAt (limited_tree l.least l.most l.otherwise s) c.args.place c.args.reader.now e.reason) c.err.result _ _ c.err.ensures refl
+    (limited_refused s l.least l.most l.otherwise c.in_ok-list.ensures.enters
+    (elim c.then-list-limits.either [
+      | inl less ↦ inl less
+      | inr more ↦ inr more.1
+    ]) c.requires.known)
+
 pub returns-clause-continues : goal.returns-clause-continues
 returns-clause-continues g c =
     continues_on c.args.reader.now c.enter_list.new.reader _ c.in_ok-list.ensures.continues c.in_ok-values.ensures.continues

@@ -9,4 +9,4 @@ use Rattle.bitcode_serde_types.proofs.uuids.UuidSerializeAs.write.Goals as goal
 pub returns : goal.returns
 returns c =
     limited_written (natural_tree 1) natural 16 16 InvalidBitPattern c.args.writer.now c.args.place _ c.args.self.now c.write_lent.result
-    c.write_lent.new.writer ?same ?low ?high c.write_lent.ensures
+    c.write_lent.new.writer (c.iter.ensures.rest ∙ ?same) ?low ?high c.write_lent.ensures
