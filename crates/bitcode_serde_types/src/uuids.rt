@@ -24,8 +24,8 @@ impl SerializeAs for Uuid {
     ghost sound = { λ left. (width_1, refl) };
 
     fn write(&self, writer: &mut Writer, left: usize, place: usize) -> Result<(), Error> {
-        let bytes = self.as_bytes().as_slice();
-        write_lent(bytes.iter(), bytes.len(), writer, left, place)
+        let bytes = self.into_bytes();
+        write_lent(bytes.as_slice().iter(), 16, writer, left, place)
     }
 }
 
