@@ -4,7 +4,7 @@ contains these or is inside them."""
 import second_format_proofs
 from known_types import names_in
 from declarations import fields_of
-from second_format import LIBRARY, Group
+from second_format import Group
 from second_format_checks import checked
 from second_format_text import code, specs
 
@@ -135,4 +135,4 @@ def lines_of(groups):
 
 def libraries_of(crates, groups):
     """The crates that types of both formats need."""
-    return {*crates, *LIBRARY.split()} if groups else crates
+    return {*crates}.union(*(group.libraries() for group in groups))

@@ -9,10 +9,10 @@ variant with several fields, and one for the lists of a type.
 import re
 
 from declarations import Parser, Struct, Type, fields_of
-from known_types import MOST_FIELDS
+from known_types import MOST_FIELDS, TYPES
 from lengths import NUMBER, Sum
 from names import module_of
-from second_format_std import ADDRESSES, LISTS, NONZERO, RANGES, TEXTS, instead_of
+from second_format_std import ADDRESSES, LISTS, NONZERO, NOTED, RANGES, TEXTS, instead_of
 from structs import QUOTED
 from tokens import Refused, Told
 
@@ -33,6 +33,7 @@ LEAVES = {
     "f64": ("(float_tree binary64)", "(λ x. number (float_number binary64 x))"),
     "Ordering": ("ordering_tree", "ordering_datum"),
     "Duration": ("duration_tree", "duration_datum"),
+    "Uuid": ("uuid_tree", "uuid_datum"),
 }
 LEAVES |= {name: ("text_tree", f"(λ s. text ({word} s))") for name, word in TEXTS.items() if name != "CowStr"}
 LEAVES |= {name: (f"(natural_tree {width})", "natural") for name, width in UNSIGNED.items()}
@@ -43,7 +44,7 @@ LEAVES |= {
     for name, width in names.items()
 }
 SOUND = {"bool": "tt", "char": "width_4", "String": "tt", "f32": "tt", "f64": "tt", "Ordering": "(tt, (tt, (tt, tt)))"}
-SOUND |= {"Duration": "(width_8, (width_4, tt))"}
+SOUND |= {"Duration": "(width_8, (width_4, tt))", "Uuid": "(width_1, refl)"}
 SOUND |= {name: "tt" for name in TEXTS}
 SOUND |= {name: f"width_{width}" for name, width in (UNSIGNED | SIGNED).items()}
 SOUND |= {f"NonZero{name.capitalize()}": f"width_{width}" for name, width in (UNSIGNED | SIGNED).items()}
@@ -51,7 +52,7 @@ SOUND |= {f"NonZero{name.capitalize()}": f"width_{width}" for name, width in (UN
 
 # the maps, with the functions that make them of pairs, and the keys that they may have
 MAPS = {"BTreeMap": "ordered_map", "HashMap": "hashed_map"}
-KEYS = {*UNSIGNED, *SIGNED, "char", "String"} - {"usize", "isize"}
+KEYS = {*UNSIGNED, *SIGNED, "char", "String", "Uuid"} - {"usize", "isize"}
 
 # the types that stand for another one, with that one as a term of their value
 HOLDERS = {"Box": "b.value", "Rc": "(rc_value b)", "Arc": "(arc_value b)", "Wrapping": "b.0", "Saturating": "b.0"}
@@ -65,7 +66,7 @@ def rust(type_):
         return f"&{type_.name or chr(39) + '_'} {rust(type_.parts[0])}"
     if type_.kind == "tuple":
         return "(" + ", ".join(map(rust, type_.parts)) + ("," if len(type_.parts) == 1 else "") + ")"
-    if type_.kind == "lifetime":
+    if type_.kind in ("lifetime", "number"):
         return type_.name
     if type_.kind == "array":
         return f"[{rust(type_.parts[0])}; {type_.name}]"
@@ -128,28 +129,19 @@ def inner_of(type_, name):
     return type_.kind == "path" and type_.name == name and len(type_.parts) == 1
 
 
+def is_key(type_):
+    """Whether it is a type that may be a key."""
+    return is_short_text(type_) or type_.kind == "path" and not type_.parts and type_.name in KEYS
+
+
 def is_map(type_):
-    """Whether it is a map with keys that are leaves."""
-    return (
-        type_.kind == "path"
-        and type_.name in MAPS
-        and len(type_.parts) == 2
-        and type_.parts[0].kind == "path"
-        and not type_.parts[0].parts
-        and type_.parts[0].name in KEYS
-    )
+    """Whether it is a map with keys that may be such."""
+    return type_.kind == "path" and type_.name in MAPS and len(type_.parts) == 2 and is_key(type_.parts[0])
 
 
 def is_set(type_):
-    """Whether it is a set of leaves that may be keys."""
-    return (
-        type_.kind == "path"
-        and type_.name in ("BTreeSet", "HashSet")
-        and len(type_.parts) == 1
-        and type_.parts[0].kind == "path"
-        and not type_.parts[0].parts
-        and type_.parts[0].name in KEYS
-    )
+    """Whether it is a set of elements that may be keys."""
+    return type_.kind == "path" and type_.name in ("BTreeSet", "HashSet") and len(type_.parts) == 1 and is_key(type_.parts[0])
 
 
 def is_result(type_):
@@ -166,6 +158,16 @@ def is_list(type_):
     return any(inner_of(type_, name) for name in LISTS)
 
 
+def is_short_text(type_):
+    """Whether it is a text of limited length."""
+    return inner_of(type_, "ArrayString") and type_.parts[0].kind == "number"
+
+
+def is_noted(type_):
+    """Whether it is a list that says more of its elements."""
+    return type_.kind == "path" and type_.name in NOTED and bool(type_.parts)
+
+
 def is_range(type_):
     return any(inner_of(type_, name) for name in RANGES)
 
@@ -179,8 +181,13 @@ def written_as(type_):
     return Parser(ADDRESSES[type_.name][0], Told()).type()
 
 
+def key_word(type_):
+    """The word for a type of keys."""
+    return "".join([type_.name.lower(), *(str(length_of(part)) for part in type_.parts)])
+
+
 def length_of(type_):
-    """The length of an array."""
+    """The length of an array, or one that a type has as a parameter."""
     if not NUMBER.fullmatch(type_.name):
         raise Refused(type_.line, f"write the length `{type_.name}` as a number")
     return Sum([type_.name], {}).value()
@@ -246,7 +253,7 @@ class Part:
         """The function that reads it."""
         if self.kind == "map":
             by = "by" if self.type.name == "BTreeMap" else "hashed_by"
-            return f"read_{self.of.inner(f'{by}_{self.type.parts[0].name.lower()}')}"
+            return f"read_{self.of.inner(f'{by}_{key_word(self.type.parts[0])}')}"
         return f"read_{self.of.inner(self.kind) if self.kind in ('list', 'option') else self.of.word}"
 
     def in_step(self, value):
@@ -381,6 +388,11 @@ def tree_of(type_, left):
         return f"(array_tree {length_of(type_)} {tree_of(type_.parts[0], left)})"
     if is_list(type_):
         return f"(seq_tree {tree_of(type_.parts[0], left)})"
+    if is_short_text(type_):
+        return f"(array_string_tree {length_of(type_.parts[0])})"
+    if is_noted(type_):
+        head = f"array_vec_tree {length_of(type_.parts[1])}" if type_.name == "ArrayVec" else "heap_tree"
+        return f"({head} {tree_of(type_.parts[0], left)})"
     if is_address(type_):
         return tree_of(written_as(type_), left)
     if is_range(type_):
@@ -437,6 +449,10 @@ def datum_of(type_):
         return f"(λ r. tuple {data_of([applied(inner, end) for end in RANGES[type_.name]])})"
     if is_list(type_):
         return f"(λ l. list (data_of (map {datum_of(type_.parts[0])} {LISTS[type_.name]})))"
+    if is_short_text(type_):
+        return "array_string_datum"
+    if is_noted(type_):
+        return f"(λ v. list (data_of (map {datum_of(type_.parts[0])} {NOTED[type_.name]})))"
     if is_map(type_):
         key, value = map(datum_of, type_.parts)
         return f"(λ m. map_datum {key} {value} m.entries)"
@@ -467,6 +483,10 @@ def sound_of(type_, left):
         return f"(repeated_sound {length_of(type_)} {tree_of(inner, left)} {sound_of(inner, left)})"
     if not type_.parts:
         return SOUND[type_.name]
+    if is_short_text(type_):
+        return "(tt, refl)"
+    if is_noted(type_):
+        return f"({sound_of(type_.parts[0], left)}, refl)"
     if is_map(type_):
         key, value = (sound_of(part, left) for part in type_.parts)
         return f"({key}, {value})"
@@ -693,7 +713,7 @@ class Fields:
         if inner is not type_:
             return f"write `Box<{rust(inner)}>`" if inner.name in self.named else f"write `{rust(inner)}`"
         is_vec = inner_of(type_, "Vec")
-        if is_vec or type_.kind == "array" or is_list(type_):
+        if is_vec or type_.kind == "array" or is_list(type_) or is_noted(type_):
             inner = pointed(type_.parts[0])
             if inner.name in self.named:
                 return f"write `Vec<{rust(inner)}>`"
@@ -790,6 +810,11 @@ class Group(Fields):
             found |= {type_.name} - own if type_.kind == "path" else set()
             left += type_.parts
         return found
+
+    def libraries(self):
+        """The crates that its files need."""
+        known = [TYPES[name].path for name in self.named_in_fields() if name in TYPES]
+        return [*LIBRARY.split(), *sorted({path.split("::")[0] for path in known if path} - {"std"})]
 
     def fold(self, shaped):
         """The fold of a type, with the steps of the group."""

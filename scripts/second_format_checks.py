@@ -8,7 +8,7 @@ from declarations import fields_of, with_fields
 from derives import Derives
 from known_types import Checker, Own, is_never
 from names import CHOOSE
-from second_format import KEYS, Fields, rust
+from second_format import Fields, is_key, rust
 from second_format_std import OTHERS
 from structs import QUOTED
 from tokens import Refused, Told
@@ -32,6 +32,11 @@ LIBRARYS = {
 class SecondChecker(Checker):
     """Whether the second format has the types of an item's fields. The group sees to what is recursive."""
 
+    def __init__(self, item, own, told, lacking):
+        super().__init__(item, own, told)
+        # the type in a type that lacks a trait
+        self.lacking = lacking
+
     def path(self, type):
         if type.name == self.item.name:
             self.own_type(type)
@@ -52,13 +57,19 @@ class SecondChecker(Checker):
         )
 
     def key(self, type, types):
-        if type.name == "BinaryHeap" or types[0].kind == "path" and not types[0].parts and types[0].name in KEYS:
+        if type.name == "BinaryHeap":
+            lacking = self.lacking(types[0], "Ord")
+            if lacking:
+                why = f"the elements of a `BinaryHeap` need `Ord`, which `{rust(lacking)}` does not have"
+                raise Refused(type.line, f"{why}: write `Vec<{rust(types[0])}>`")
+            return
+        if is_key(types[0]):
             return
         held = "its elements" if len(types) == 1 else "structs of a key and a value"
         raise Refused(
             type.line,
-            f"`{rust(types[0])}` is no key in the second format, which has integers of a fixed width, `char` and"
-            f" `String`: write a `Vec` of {held}",
+            f"`{rust(types[0])}` is no key in the second format, which has integers of a fixed width, `char`, `String`,"
+            f" `ArrayString` and `Uuid`: write a `Vec` of {held}",
         )
 
 
@@ -127,8 +138,9 @@ def checked(items, faulty, told, folder):
         is_refused = type.name in own and type.name not in (*group.named, *group.own)
         return is_refused or (type.line, type.name) in told.blamed or any(map(is_told, type.parts))
 
+    lacking = Derives(own, Told(), folder).lacking
     for item in items:
-        checker = SecondChecker(item, own, told)
+        checker = SecondChecker(item, own, told, lacking)
         fields = [field for field in fields_of(item) if checker.check_parts([field.type]) and not is_told(field.type)]
         if item in plain:
             group.refuse(item, fields, told)

@@ -20,6 +20,9 @@ LISTS = {
     "ArcSlice": "(arc_slice_items l)",
 }
 
+# the lists that say more of their elements than that they are there, with the elements of one as a term
+NOTED = {"ArrayVec": "v.items", "BinaryHeap": "(heap_items v)"}
+
 # the integers that are not 0, with the words for them as integers
 NONZERO = {f"NonZero{name.capitalize()}": f"non_zero_{name}_get" for name in INTEGERS}
 
@@ -39,6 +42,7 @@ ADDRESSES = {
 # the words of these types, by their modules
 WORDS_OF_STD = [
     ("std.specs.Arc", "arc_value arc_slice_items arc_str_bytes"),
+    ("std.specs.BinaryHeap", "heap_items"),
     ("std.specs.Box", "boxed_slice_items boxed_str_bytes"),
     ("std.specs.Cow", "cow_str_bytes"),
     ("std.specs.Int.NonZero", " ".join(NONZERO.values())),
@@ -51,15 +55,19 @@ WORDS_OF_STD = [
     ("bitcode_serde_types.specs.Arrays", "array_tree array_datum repeated_sound repeated_plain"),
     ("bitcode_serde_types.specs.Checked", "nonzero_natural_tree nonzero_integer_tree"),
     ("bitcode_serde_types.specs.Durations", "duration_tree duration_datum"),
+    ("bitcode_serde_types.specs.Heaps", "heap_tree"),
+    ("bitcode_serde_types.specs.Limited", "array_string_tree array_string_datum array_vec_tree"),
     ("bitcode_serde_types.specs.Orderings", "ordering_tree ordering_datum"),
+    ("bitcode_serde_types.specs.Uuids", "uuid_tree uuid_datum"),
 ]
 
 # where code gets the types from
 TYPES_OF_STD = [
+    ("arrayvec", "ArrayString ArrayVec"),
     ("std::borrow", "CowStr"),
     ("std::boxed", "BoxedSlice BoxedStr"),
     ("std::cmp", "Ordering"),
-    ("std::collections", "BTreeMap HashMap BTreeSet HashSet LinkedList VecDeque"),
+    ("std::collections", "BTreeMap BinaryHeap HashMap BTreeSet HashSet LinkedList VecDeque"),
     ("std::marker", "PhantomData"),
     ("std::net", "IpAddr Ipv4Addr Ipv6Addr SocketAddr SocketAddrV4 SocketAddrV6"),
     ("std::num", " ".join([*NONZERO, "Saturating Wrapping"])),
@@ -67,19 +75,16 @@ TYPES_OF_STD = [
     ("std::rc", "Rc RcSlice RcStr"),
     ("std::sync", "Arc ArcSlice ArcStr"),
     ("std::time", "Duration"),
+    ("uuid", "Uuid"),
 ]
 
 # what to write in the place of types that have no impls
 OTHERS = {
-    "ArrayString": "write `String`",
-    "ArrayVec": "write `Vec<T>`",
     "BTreeMap": "write `Vec<(K, V)>`",
     "BTreeSet": "write `Vec<T>`",
-    "BinaryHeap": "write `Vec<T>`",
     "CowStr": "write `CowStr<'a>`",
     "HashMap": "write `Vec<(K, V)>`",
     "HashSet": "write `Vec<T>`",
-    "Uuid": "write `u128`",
 }
 
 

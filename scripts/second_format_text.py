@@ -39,10 +39,10 @@ WORDS = (
     "Datum unit number text list tuple choice no_data datum_and data_of float_number width_1 width_2 width_4 width_8 "
     "width_16 natural truth column_free ShapeTree ShapeTrees unit_tree never_tree bool_tree natural_tree integer_tree "
     "float_tree char_tree text_tree seq_tree map_tree option_tree tuple_tree choice_tree no_trees tree_and IsSound "
-    "IsSteady Continues IsRefusalAt option_datum map_datum set_datum ReadsAs HasNoMap result_tree result_datum"
+    "IsSteady Continues IsRefusalAt option_datum map_datum set_datum ReadsAs KeepsAll result_tree result_datum"
 )
 OF_SPECS = [
-    ("std.specs.Prelude", "ℕ zero suc map string_bytes"),
+    ("std.specs.Prelude", "ℕ zero suc map refl string_bytes"),
     ("std.specs.Float", "binary32 binary64"),
     *WORDS_OF_STD,
     ("bitcode_serde_types.specs.Written", WORDS),
@@ -78,20 +78,34 @@ def specs(group):
 
 
 def with_plain(lines, types, mapped):
-    """The definitions of these types, with the lemmas that there is no map in them. `mapped` has the words of the types
-    with maps."""
+    """The definitions of these types, with the lemmas that their values keep all that was read. `mapped` has the words of
+    the types with maps and heaps."""
     text = "\n".join(lines)
-    if "map_tree" in text or any(has_name(f"{word}_tree", text) for word in mapped):
+    if "map_tree" in text or "heap_tree" in text or any(has_name(f"{word}_tree", text) for word in mapped):
         mapped.update(one.word for one in types)
         return lines
     is_sound = lambda line: "_sound : " in line and line.endswith(f"({types[0].word}_tree left)")
     start = max(place for place, line in enumerate(lines) if is_sound(line))
     sound = lines[start:]
     several = lines[start - 1] == "mutual"
-    plain = ["-- there is no map in it, so that a value keeps all that was read", *(["mutual"] if several else [])]
+    plain = ["-- a value keeps all that was read: no map or heap is in it", *(["mutual"] if several else [])]
     for line in sound:
-        plain.append(re.sub(r"width_\d+", "tt", line).replace("_sound", "_plain").replace("IsSound", "HasNoMap"))
+        plain.append(
+            re.sub(r"width_\d+", "tt", without_notes(line)).replace("_sound", "_plain").replace("IsSound", "KeepsAll")
+        )
     return [*lines, *plain]
+
+
+def without_notes(line):
+    """The line without the proofs that data with a note have a column."""
+    while ", refl)" in line:
+        end = line.index(", refl)")
+        start, depth = end, 1
+        while depth:
+            start -= 1
+            depth += {")": 1, "(": -1}.get(line[start], 0)
+        line = line[:start] + line[start + 1 : end] + line[end + len(", refl)") :]
+    return line
 
 
 def cycle_specs(group):

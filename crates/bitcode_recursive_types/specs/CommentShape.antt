@@ -1,6 +1,6 @@
 -- The shapes of `Comment`, and the content of their values. Written by `scripts/second_format`.
 use Rattle.std.specs.Prelude.{ℕ, zero, suc, map}
-use Rattle.bitcode_serde_types.specs.Written.{Datum, text, list, tuple, no_data, datum_and, data_of, ShapeTree, ShapeTrees, never_tree, text_tree, seq_tree, tuple_tree, no_trees, tree_and, IsSound, HasNoMap}
+use Rattle.bitcode_serde_types.specs.Written.{Datum, text, list, tuple, no_data, datum_and, data_of, ShapeTree, ShapeTrees, never_tree, text_tree, seq_tree, tuple_tree, no_trees, tree_and, IsSound, KeepsAll}
 use Rattle.bitcode_recursive_types.specs.declared.comment.Comment.{Comment, fold-Comment}
 use Rattle.bitcode_recursive_types.specs.declared.comment.Comment.TheOpen.{Comment-F}
 
@@ -24,7 +24,7 @@ pub comment_sound : (left : ℕ) → IsSound (comment_tree left)
 comment_sound zero = tt
 comment_sound (suc left) = (tt, ((comment_sound left), tt))
 
--- there is no map in it, so that a value keeps all that was read
-pub comment_plain : (left : ℕ) → HasNoMap (comment_tree left)
+-- a value keeps all that was read: no map or heap is in it
+pub comment_plain : (left : ℕ) → KeepsAll (comment_tree left)
 comment_plain zero = tt
 comment_plain (suc left) = (tt, ((comment_plain left), tt))

@@ -1,6 +1,6 @@
 -- The shapes of `Directory`, `Entry`, and the content of their values. Written by `scripts/second_format`.
 use Rattle.std.specs.Prelude.{ℕ, zero, suc, map, string_bytes}
-use Rattle.bitcode_serde_types.specs.Written.{Datum, unit, text, list, tuple, choice, no_data, datum_and, data_of, width_8, natural, ShapeTree, ShapeTrees, unit_tree, never_tree, natural_tree, text_tree, seq_tree, tuple_tree, choice_tree, no_trees, tree_and, IsSound, HasNoMap}
+use Rattle.bitcode_serde_types.specs.Written.{Datum, unit, text, list, tuple, choice, no_data, datum_and, data_of, width_8, natural, ShapeTree, ShapeTrees, unit_tree, never_tree, natural_tree, text_tree, seq_tree, tuple_tree, choice_tree, no_trees, tree_and, IsSound, KeepsAll}
 use Rattle.bitcode_recursive_types.specs.declared.directory.Directory.{Directory, fold-Directory}
 use Rattle.bitcode_recursive_types.specs.declared.directory.Entry.{Entry, fold-Entry}
 use Rattle.bitcode_recursive_types.specs.declared.directory.Entry.TheOpen.{Entry-F, Directory-F}
@@ -46,12 +46,12 @@ mutual
   entry_sound zero = tt
   entry_sound (suc left) = (width_8, ((directory_sound left), (tt, tt)))
 
--- there is no map in it, so that a value keeps all that was read
+-- a value keeps all that was read: no map or heap is in it
 mutual
-  pub directory_plain : (left : ℕ) → HasNoMap (directory_tree left)
+  pub directory_plain : (left : ℕ) → KeepsAll (directory_tree left)
   directory_plain zero = tt
   directory_plain (suc left) = (tt, ((entry_plain left), tt))
 
-  pub entry_plain : (left : ℕ) → HasNoMap (entry_tree left)
+  pub entry_plain : (left : ℕ) → KeepsAll (entry_tree left)
   entry_plain zero = tt
   entry_plain (suc left) = (tt, ((directory_plain left), (tt, tt)))

@@ -1,4 +1,5 @@
 pub mod CommentShape
+pub mod DeskShape
 pub mod DirectoryShape
 pub mod ExprShape
 pub mod NodeShape

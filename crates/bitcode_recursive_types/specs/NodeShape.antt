@@ -1,6 +1,6 @@
 -- The shapes of `Node`, and the content of their values. Written by `scripts/second_format`.
 use Rattle.std.specs.Prelude.{ℕ, zero, suc, map, string_bytes}
-use Rattle.bitcode_serde_types.specs.Written.{Datum, number, text, list, tuple, no_data, datum_and, data_of, width_1, width_4, natural, truth, ShapeTree, ShapeTrees, never_tree, bool_tree, natural_tree, integer_tree, text_tree, seq_tree, tuple_tree, no_trees, tree_and, IsSound, HasNoMap}
+use Rattle.bitcode_serde_types.specs.Written.{Datum, number, text, list, tuple, no_data, datum_and, data_of, width_1, width_4, natural, truth, ShapeTree, ShapeTrees, never_tree, bool_tree, natural_tree, integer_tree, text_tree, seq_tree, tuple_tree, no_trees, tree_and, IsSound, KeepsAll}
 use Rattle.bitcode_recursive_types.specs.declared.node.Node.{Node, fold-Node}
 use Rattle.bitcode_recursive_types.specs.declared.node.Node.TheOpen.{Node-F}
 
@@ -24,7 +24,7 @@ pub node_sound : (left : ℕ) → IsSound (node_tree left)
 node_sound zero = tt
 node_sound (suc left) = (tt, (width_4, ((node_sound left), ((width_1, (tt, tt)), tt))))
 
--- there is no map in it, so that a value keeps all that was read
-pub node_plain : (left : ℕ) → HasNoMap (node_tree left)
+-- a value keeps all that was read: no map or heap is in it
+pub node_plain : (left : ℕ) → KeepsAll (node_tree left)
 node_plain zero = tt
 node_plain (suc left) = (tt, (tt, ((node_plain left), ((tt, (tt, tt)), tt))))

@@ -10,7 +10,7 @@ use Rattle.bitcode_shapes.specs.Addresses.{ip_family}
 use Rattle.bitcode_serde_types.specs.Arrays.{array_tree, array_datum, repeated_sound, repeated_plain}
 use Rattle.bitcode_serde_types.specs.Checked.{nonzero_natural_tree}
 use Rattle.bitcode_serde_types.specs.Durations.{duration_tree, duration_datum}
-use Rattle.bitcode_serde_types.specs.Written.{Datum, text, list, tuple, no_data, datum_and, data_of, width_1, width_2, width_4, width_8, natural, ShapeTree, natural_tree, text_tree, seq_tree, tuple_tree, no_trees, tree_and, IsSound, HasNoMap, result_tree, result_datum}
+use Rattle.bitcode_serde_types.specs.Written.{Datum, text, list, tuple, no_data, datum_and, data_of, width_1, width_2, width_4, width_8, natural, ShapeTree, natural_tree, text_tree, seq_tree, tuple_tree, no_trees, tree_and, IsSound, KeepsAll, result_tree, result_datum}
 use Rattle.bitcode_recursive_types.specs.declared.peer.Peer.{Peer}
 
 -- the shape of `Peer`
@@ -23,6 +23,6 @@ peer_datum t = tuple (datum_and (result_datum (λ a. array_datum natural (ipv4_o
 pub peer_sound : (left : ℕ) → IsSound (peer_tree left)
 peer_sound left = (((repeated_sound 4 (natural_tree 1) width_1), ((repeated_sound 16 (natural_tree 1) width_1), tt)), (((repeated_sound 4 (natural_tree 1) width_1), (width_2, tt)), ((repeated_sound 4 (natural_tree 1) width_1), (width_2, (tt, (tt, (width_2, ((width_8, (width_4, tt)), tt))))))))
 
--- there is no map in it, so that a value keeps all that was read
-pub peer_plain : (left : ℕ) → HasNoMap (peer_tree left)
+-- a value keeps all that was read: no map or heap is in it
+pub peer_plain : (left : ℕ) → KeepsAll (peer_tree left)
 peer_plain left = (((repeated_plain 4 (natural_tree 1) tt), ((repeated_plain 16 (natural_tree 1) tt), tt)), (((repeated_plain 4 (natural_tree 1) tt), (tt, tt)), ((repeated_plain 4 (natural_tree 1) tt), (tt, (tt, (tt, (tt, ((tt, (tt, tt)), tt))))))))

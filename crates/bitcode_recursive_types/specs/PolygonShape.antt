@@ -1,7 +1,7 @@
 -- The shapes of `Polygon`, `Corner`, `Fill`, and the content of their values. Written by `scripts/second_format`.
 use Rattle.std.specs.Prelude.{ℕ, map, string_bytes}
 use Rattle.std.specs.Box.{boxed_str_bytes}
-use Rattle.bitcode_serde_types.specs.Written.{Datum, unit, number, text, list, tuple, choice, no_data, datum_and, data_of, width_4, width_8, natural, ShapeTree, ShapeTrees, unit_tree, natural_tree, integer_tree, text_tree, seq_tree, option_tree, tuple_tree, choice_tree, no_trees, tree_and, IsSound, option_datum, HasNoMap}
+use Rattle.bitcode_serde_types.specs.Written.{Datum, unit, number, text, list, tuple, choice, no_data, datum_and, data_of, width_4, width_8, natural, ShapeTree, ShapeTrees, unit_tree, natural_tree, integer_tree, text_tree, seq_tree, option_tree, tuple_tree, choice_tree, no_trees, tree_and, IsSound, option_datum, KeepsAll}
 use Rattle.bitcode_recursive_types.specs.declared.polygon.Polygon.{Polygon}
 use Rattle.bitcode_recursive_types.specs.declared.polygon.Corner.{Corner}
 use Rattle.bitcode_recursive_types.specs.declared.polygon.Fill.{Fill}
@@ -17,8 +17,8 @@ corner_datum t = tuple (datum_and (number t.x) (datum_and (number t.y) no_data))
 pub corner_sound : (left : ℕ) → IsSound (corner_tree left)
 corner_sound left = (width_4, (width_4, tt))
 
--- there is no map in it, so that a value keeps all that was read
-pub corner_plain : (left : ℕ) → HasNoMap (corner_tree left)
+-- a value keeps all that was read: no map or heap is in it
+pub corner_plain : (left : ℕ) → KeepsAll (corner_tree left)
 corner_plain left = (tt, (tt, tt))
 
 -- what each variant of `Fill` holds
@@ -37,8 +37,8 @@ fill_datum (fill'.Pattern x0 x1) = choice 2 (tuple (datum_and (text (string_byte
 pub fill_sound : (left : ℕ) → IsSound (fill_tree left)
 fill_sound left = (tt, (width_4, ((tt, (width_8, tt)), tt)))
 
--- there is no map in it, so that a value keeps all that was read
-pub fill_plain : (left : ℕ) → HasNoMap (fill_tree left)
+-- a value keeps all that was read: no map or heap is in it
+pub fill_plain : (left : ℕ) → KeepsAll (fill_tree left)
 fill_plain left = (tt, (tt, ((tt, (tt, tt)), tt)))
 
 -- the shape of `Polygon`
@@ -51,6 +51,6 @@ polygon_datum t = tuple (datum_and (list (data_of (map corner_datum t.corners.it
 pub polygon_sound : (left : ℕ) → IsSound (polygon_tree left)
 polygon_sound left = ((corner_sound left), ((fill_sound left), ((tt, (tt, tt)), tt)))
 
--- there is no map in it, so that a value keeps all that was read
-pub polygon_plain : (left : ℕ) → HasNoMap (polygon_tree left)
+-- a value keeps all that was read: no map or heap is in it
+pub polygon_plain : (left : ℕ) → KeepsAll (polygon_tree left)
 polygon_plain left = ((corner_plain left), ((fill_plain left), ((tt, (tt, tt)), tt)))

@@ -1,6 +1,6 @@
 -- The shapes of `SearchTree`, and the content of their values. Written by `scripts/second_format`.
 use Rattle.std.specs.Prelude.{ℕ, zero, suc, map}
-use Rattle.bitcode_serde_types.specs.Written.{Datum, tuple, no_data, datum_and, width_4, natural, ShapeTree, ShapeTrees, never_tree, natural_tree, option_tree, tuple_tree, no_trees, tree_and, IsSound, option_datum, HasNoMap}
+use Rattle.bitcode_serde_types.specs.Written.{Datum, tuple, no_data, datum_and, width_4, natural, ShapeTree, ShapeTrees, never_tree, natural_tree, option_tree, tuple_tree, no_trees, tree_and, IsSound, option_datum, KeepsAll}
 use Rattle.bitcode_recursive_types.specs.declared.search_tree.SearchTree.{SearchTree, fold-SearchTree}
 use Rattle.bitcode_recursive_types.specs.declared.search_tree.SearchTree.TheOpen.{SearchTree-F}
 
@@ -24,7 +24,7 @@ pub search_tree_sound : (left : ℕ) → IsSound (search_tree_tree left)
 search_tree_sound zero = tt
 search_tree_sound (suc left) = ((tt, ((search_tree_sound left), tt)), (width_4, ((tt, ((search_tree_sound left), tt)), tt)))
 
--- there is no map in it, so that a value keeps all that was read
-pub search_tree_plain : (left : ℕ) → HasNoMap (search_tree_tree left)
+-- a value keeps all that was read: no map or heap is in it
+pub search_tree_plain : (left : ℕ) → KeepsAll (search_tree_tree left)
 search_tree_plain zero = tt
 search_tree_plain (suc left) = ((tt, ((search_tree_plain left), tt)), (tt, ((tt, ((search_tree_plain left), tt)), tt)))

@@ -2,6 +2,7 @@
 #![tactic(auto)]
 
 pub mod comment;
+pub mod desk;
 pub mod directory;
 pub mod expr;
 pub mod node;

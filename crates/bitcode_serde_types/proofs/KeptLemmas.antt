@@ -2,7 +2,7 @@
 use Rattle.std.proofs.Common.{◌≡◌, ℕ, zero, suc, ◌+◌, ◌≤◌, ◌<◌, length, List, [], ◌∷◌, ◌++◌, map, true, refl, ap, sym, subst, ◌∙◌, arith}
 use Rattle.std.specs.List.{AllZip}
 use Rattle.std.specs.Prelude.{Result, Ok, Err, IfOk}
-use Rattle.std.proofs.lemmas.List.{map-append}
+use Rattle.std.proofs.lemmas.List.{map-append, length-append}
 use Rattle.std.proofs.lemmas.List.Elements.{AllZip-push}
 use Rattle.bitcode_memory.specs.declared.error.Error.{Error}
 use Rattle.bitcode_memory.specs.declared.error.Reason.{Reason}
@@ -10,7 +10,7 @@ use Rattle.bitcode_shapes.specs.Datum.{Datum, unit, list, choice, data_of, numbe
 use Rattle.bitcode_shapes.specs.Shape.{Allowed, IsAllowed}
 use Rattle.bitcode_untyped.specs.Bounds.{column_free, free_limit}
 use Rattle.bitcode_untyped.specs.Nodes.{node_count, node_counts}
-use Rattle.bitcode_untyped.specs.ShapeTree.{ShapeTree, ShapeTrees, no_trees, tree_and, unit_tree, leaf_tree, seq_tree, choice_tree, tree_at}
+use Rattle.bitcode_untyped.specs.ShapeTree.{ShapeTree, ShapeTrees, no_trees, tree_and, unit_tree, leaf_tree, seq_tree, choice_tree, tree_at, IsSound}
 use Rattle.bitcode_untyped.specs.Machine.{State}
 use Rattle.bitcode_untyped.specs.Reads.{IsReadable, ReadsMany}
 use Rattle.bitcode_untyped.specs.Walk.{Place, variant, index_kind, walk}
@@ -43,6 +43,12 @@ pub read_otherwise : {A : Type 0} (f g : A → Datum) → ((a : A) → f a ≡ g
     (r : Result A Error) → IfOk r (λ a. ReadsAs f s place old before a new after) → IfOk r (λ a. ReadsAs g s place old before a new after)
 read_otherwise f g e s place old before new after (Ok a) k = kept_otherwise (Restates s) f g _ before after a a (sym (e a)) k
 read_otherwise f g e s place old before new after (Err y) k = tt
+
+-- a value that has the content where the budget is left
+pub kept_while_left : {A B : Type 0} (Is : Datum → Datum → Type 0) (f : A → Datum) (g : B → Datum) (R : Datum → Type 0) (before after : Budget) (a : A) (b : B)
+    → (IsLeft after → g b ≡ f a) → KeepsAs Is f R before a after → KeepsAs Is g R before b after
+kept_while_left Is f g R before after a b e k =
+    record { datum = k.datum; read = k.read; taken = k.taken; same = λ left. subst (Is k.datum) (sym (e left)) (k.same left) }
 
 -- one node
 pub one_kept : {A : Type 0} (f : A → Datum) (R : Datum → Type 0) (before after : Budget) (a : A) → node_count (f a) ≡ 1 → after ≡ spend 1 before → R (f a)
@@ -84,21 +90,28 @@ keeps_more_as Is content R S before mid after xs ys x d k read taken same pushed
       (AllZip-push Is k.listing (map content xs) d (content x) first (same h)));
 }
 
+-- where one more stands behind the others, all are still there
+pub one_longer : {A : Type 0} (xs ys : List A) (x : A) (i : ℕ) → length xs ≡ i → ys ≡ xs ++ x ∷ [] → length ys ≡ i + 1
+one_longer xs ys x i all more =
+    let e : length ys ≡ length (xs ++ x ∷ []) = ap length more in
+    let n = length-append xs (x ∷ []) in
+    omega (arith, e, n, all)
+
 -- nothing is kept any more, and further elements without a column are read where they stand
-pub rest_kept : {A : Type 0} (f : A → Datum) (s : ShapeTree) (place : ℕ) (old mid : Reader) (before : Budget) (xs : List A) (n i : ℕ) → Continues old mid
+pub rest_kept : {A : Type 0} (f : A → Datum) (s : ShapeTree) (place : ℕ) (old mid : Reader) (before : Budget) (xs : List A) (n i : ℕ) → Continues old mid → IsSound s
     → column_free s ≡ true → ReadsEachAs f s place old before i xs mid Spent → ReadsEachAs f s place old before (i + n) xs mid Spent
-rest_kept f s place old mid before xs zero i c free k =
+rest_kept f s place old mid before xs zero i c sound free k =
     let e : i ≡ i + 0 = omega arith in subst (λ j. ReadsEachAs f s place old before j xs mid Spent) e k
-rest_kept f s place old mid before xs (suc n) i c free k =
+rest_kept f s place old mid before xs (suc n) i c sound free k =
     let d = free_datum s in
     let more : ReadsEachAs f s place old before (i + 1) xs mid Spent = record {
       listing = k.listing ++ d ∷ [];
-      read = one_more s place old mid mid i k.listing d c k.read (λ p at a st. (a, st, free_read s p a free));
+      read = one_more s place old mid mid i k.listing d c k.read (λ p at a st. (a, st, free_read s p a sound free));
       taken = spent_too before k.listing d k.taken;
       same = λ h. absurd h;
     } in
     let e : i + 1 + n ≡ i + suc n = omega arith in
-    subst (λ j. ReadsEachAs f s place old before j xs mid Spent) e (rest_kept f s place old mid before xs n (i + 1) c free more)
+    subst (λ j. ReadsEachAs f s place old before j xs mid Spent) e (rest_kept f s place old mid before xs n (i + 1) c sound free more)
   where
     spent_too : (before : Budget) (ds : List Datum) (d : Datum) → Spent ≡ spend (node_counts (data_of ds)) before
         → Spent ≡ spend (node_counts (data_of (ds ++ d ∷ []))) before

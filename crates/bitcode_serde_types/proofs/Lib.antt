@@ -11,6 +11,7 @@ pub mod FieldsRead
 pub mod RestOfFields
 pub mod EnteringLemmas
 pub mod RefusalLemmas
+pub mod NotedLemmas
 pub mod NumberLemmas
 pub mod RestatesLemmas
 pub mod EntryLemmas

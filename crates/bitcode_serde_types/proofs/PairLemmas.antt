@@ -15,7 +15,7 @@ use Rattle.bitcode_serde.proofs.ValueLemmas.{EntersMap, ReadsPairsAt, asked_alik
 use Rattle.bitcode_serde_types.specs.Pairs.{ReadsPairsAs, pair_datum, map_datum}
 use Rattle.bitcode_serde_types.specs.ReadingAs.{KeepsEachAs, ReadsAs}
 use Rattle.bitcode_serde_types.specs.Refusals.{IsReasonOf, IsRefusalAt}
-use Rattle.bitcode_serde_types.specs.Restates.{Restates, SameKey, HasNoMap, AreEntriesOf}
+use Rattle.bitcode_serde_types.specs.Restates.{Restates, SameKey, KeepsAll, AreEntriesOf}
 use Rattle.bitcode_serde_types.proofs.KeptLemmas.{keeps_more_as}
 use Rattle.bitcode_serde_types.proofs.RefusalLemmas.{reason_up}
 use Rattle.bitcode_serde_types.proofs.RestatesLemmas.{kept_whole}
@@ -33,7 +33,7 @@ module _ {K V : Type 0} (f : K → Datum) (g : V → Datum) (k v : ShapeTree) (k
   )
 
   module _ (old mid : Reader) (before between : Budget) (i : ℕ) (xs : List (K × V)) (so_far : PairsKept old before i xs mid between) where
-    pub pairs_more : HasNoMap k → (next new : Reader) (first_left value_left after : Budget) (ys : List (K × V)) (x : K) (y : V) → first_left ≡ spend 1 between
+    pub pairs_more : KeepsAll k → (next new : Reader) (first_left value_left after : Budget) (ys : List (K × V)) (x : K) (y : V) → first_left ≡ spend 1 between
         → Continues mid next → ReadsAs f k keys mid first_left x next value_left → Continues next new → ReadsAs g v values next value_left y new after
         → (IsLeft after → ys ≡ xs ++ (x, y) ∷ []) → PairsKept old before (i + 1) ys new after
     pairs_more plain next new first_left value_left after ys x y taken c first d second pushed =

@@ -25,8 +25,8 @@ use Rattle.bitcode_serde_types.specs.Refusals.{Refuses, Refuse, IsReasonOf, IsRe
 
 pub known_of : (s : ShapeTree) (why : Reason) → IsValueReason why → IsReasonOf s why
 known_of s reason.InvalidBitPattern h = absurd h
-known_of s reason.InvalidArrayVec h = h
-known_of s reason.InvalidArrayString h = h
+known_of s reason.InvalidArrayVec h = absurd h
+known_of s reason.InvalidArrayString h = absurd h
 known_of s reason.Eof h = h
 known_of s reason.ExpectedEof h = h
 known_of s reason.InvalidPacking h = h
@@ -48,8 +48,8 @@ known_of s reason.TooManyNodes h = h
 -- what holds of a part holds of the whole
 pub reason_up : (s t : ShapeTree) (why : Reason) → (Refuses s why → Refuses t why) → IsReasonOf s why → IsReasonOf t why
 reason_up s t reason.InvalidBitPattern f h = f h
-reason_up s t reason.InvalidArrayVec f h = h
-reason_up s t reason.InvalidArrayString f h = h
+reason_up s t reason.InvalidArrayVec f h = f h
+reason_up s t reason.InvalidArrayString f h = f h
 reason_up s t reason.Eof f h = h
 reason_up s t reason.ExpectedEof f h = h
 reason_up s t reason.InvalidPacking f h = h

@@ -2,7 +2,7 @@
 use Rattle.std.specs.Prelude.{ℕ, zero, suc, List, map}
 use Rattle.bitcode_shapes.specs.Datum.{Datum, tuple, data_of}
 use Rattle.bitcode_untyped.specs.ShapeTree.{ShapeTree, ShapeTrees, no_trees, tree_and, tuple_tree, IsSound, AreSound}
-use Rattle.bitcode_serde_types.specs.Restates.{HasNoMap, HaveNoMap}
+use Rattle.bitcode_serde_types.specs.Restates.{KeepsAll, KeepAll}
 
 -- the tree, so many times
 abbrev pub repeated : ℕ → ShapeTree → ShapeTrees
@@ -19,6 +19,6 @@ pub repeated_sound : (n : ℕ) (s : ShapeTree) → IsSound s → AreSound (repea
 repeated_sound zero s h = tt
 repeated_sound (suc n) s h = (h, repeated_sound n s h)
 
-pub repeated_plain : (n : ℕ) (s : ShapeTree) → HasNoMap s → HaveNoMap (repeated n s)
+pub repeated_plain : (n : ℕ) (s : ShapeTree) → KeepsAll s → KeepAll (repeated n s)
 repeated_plain zero s h = tt
 repeated_plain (suc n) s h = (h, repeated_plain n s h)

@@ -1,16 +1,19 @@
 -- Keys whose order tells their content.
-use Rattle.std.proofs.Common.{◌≡◌, true, refl, ap, sym, subst, ◌∙◌, string_bytes}
+use Rattle.std.proofs.Common.{◌≡◌, ℕ, true, List, [], ◌∷◌, map, refl, ap, sym, subst, ◌∙◌, string_bytes}
 use Rattle.std.specs.declared.cmp.Ordering.{Ordering}
 use Rattle.std.specs.declared.cmp.Ordering.TheVariants.{Less, Equal, Greater}
-use Rattle.std.specs.Cmp.{IsTotalOrder}
-use Rattle.std.specs.Cmp.Lexicographic.{slice_cmp}
+use Rattle.std.specs.Cmp.{IsTotalOrder, on_total}
+use Rattle.std.specs.Cmp.Lexicographic.{slice_cmp, nat_list_cmp_total}
 use Rattle.std.specs.Ordering.{is_eq, eq_by_cmp, nat_cmp, int_cmp}
 use Rattle.std.specs.String.{string_cmp, string_cmp_total}
 use Rattle.std.proofs.lemmas.Cmp.{eq_by_cmp_equiv, nat_cmp_total, int_cmp_total}
 use Rattle.std.proofs.lemmas.Map.Lookups.{exact_unsigned, exact_signed, exact_bytes}
-use Rattle.bitcode_shapes.specs.Datum.{Datum, number, text, number_in, natural_in, text_in}
+use Rattle.arrayvec.specs.ArrayString.{ArrayString}
+use Rattle.bitcode_shapes.specs.Datum.{Datum, number, text, number_in, natural_in, text_in, elements_in}
 use Rattle.bitcode_coder.specs.Spelling.{natural}
 use Rattle.bitcode_serde_types.specs.Keys.{TellsKeys}
+use Rattle.bitcode_serde_types.specs.Limited.{array_string_datum}
+use Rattle.bitcode_serde_types.specs.Uuids.{uuid_datum}
 
 equal_from : (r : Ordering) → is_eq r ≡ true → r ≡ Equal
 equal_from Less h = absurd cc
@@ -37,3 +40,17 @@ number_keys = keys_by int_cmp (λ z. z) number int_cmp_total (λ a b. refl) exac
 
 pub text_keys : {Z : Type 0} → TellsKeys (eq_by_cmp (string_cmp {Z = Z})) (λ s. text (string_bytes s))
 text_keys = keys_by (slice_cmp nat_cmp) string_bytes (λ s. text (string_bytes s)) string_cmp_total (λ a b. refl) exact_bytes (λ a b e. ap text e) (λ a b e. ap text_in e)
+
+pub array_string_keys : TellsKeys (eq_by_cmp (λ (s t : ArrayString). slice_cmp nat_cmp s.bytes t.bytes)) array_string_datum
+array_string_keys =
+    keys_by (slice_cmp nat_cmp) (λ (s : ArrayString). s.bytes) array_string_datum (on_total (λ (s : ArrayString). s.bytes) nat_list_cmp_total) (λ a b. refl)
+    exact_bytes (λ a b e. ap text e) (λ a b e. ap text_in e)
+
+pub uuid_keys : TellsKeys (eq_by_cmp (slice_cmp nat_cmp)) uuid_datum
+uuid_keys =
+    keys_by (slice_cmp nat_cmp) (λ u. u) uuid_datum nat_list_cmp_total (λ a b. refl) exact_bytes (λ a b e. ap uuid_datum e)
+    (λ a b e. sym (bytes_again a) ∙ ap (λ d. map natural_in (elements_in d)) e ∙ bytes_again b)
+  where
+    bytes_again : (bytes : List ℕ) → map natural_in (elements_in (uuid_datum bytes)) ≡ bytes
+    bytes_again [] = refl
+    bytes_again (n ∷ ns) = ap (λ ms. n ∷ ms) (bytes_again ns)

@@ -3,10 +3,12 @@ pub mod Checked
 pub mod DeepFaults
 pub mod Durations
 pub mod FieldsWritten
+pub mod Heaps
 pub mod Joined
 pub mod Keys
 pub mod LawfulJoined
 pub mod LawfulKeys
+pub mod Limited
 pub mod Lists
 pub mod Options
 pub mod Orderings
@@ -15,4 +17,6 @@ pub mod ReadingAs
 pub mod Refusals
 pub mod Restates
 pub mod Results
+pub mod Rows
+pub mod Uuids
 pub mod Written

@@ -1,13 +1,13 @@
 -- Why reading a value of a Rust type is refused: as a `Value` is, or because its data are not of the type.
 use Rattle.std.specs.Prelude.{◌≡◌, ◌≢◌, ◌⊎◌, ◌<◌, ℕ, List}
 use Rattle.bitcode_memory.specs.declared.error.Reason.{Reason}
-use Rattle.bitcode_memory.specs.declared.error.Reason.TheVariants.{InvalidBitPattern, OutOfMemory, TooManyNodes}
+use Rattle.bitcode_memory.specs.declared.error.Reason.TheVariants.{InvalidBitPattern, InvalidArrayVec, InvalidArrayString, OutOfMemory, TooManyNodes}
 use Rattle.bitcode_shapes.specs.Datum.{Datum}
 use Rattle.bitcode_shapes.specs.Shape.{Allowed, any_number, nonzero, scalar, between}
 use Rattle.bitcode_untyped.specs.Machine.{State}
 use Rattle.bitcode_untyped.specs.Nodes.{node_count}
 use Rattle.bitcode_untyped.specs.Reads.{ReadsNoDatum, ReadsMany, ReadsNoFields, IsReadable}
-use Rattle.bitcode_untyped.specs.ShapeTree.{ShapeTree, ShapeTrees, unit_tree, never_tree, leaf_tree, seq_tree, map_tree, tuple_tree, choice_tree, no_trees, tree_and}
+use Rattle.bitcode_untyped.specs.ShapeTree.{any_order, admits, ShapeTree, ShapeTrees, unit_tree, never_tree, leaf_tree, seq_tree, map_tree, tuple_tree, choice_tree, noted_tree, no_trees, tree_and}
 use Rattle.bitcode_untyped.specs.Walk.{Place, walk}
 use Rattle.bitcode_serde.specs.ReadingValues.{HasNone, IsValueReason, field_at}
 use Rattle.bitcode_serde.specs.declared.reader.Reader.{Reader}
@@ -32,6 +32,8 @@ abbrev mutual
   Refuses (map_tree k v) reason = Refuses k reason ⊎ Refuses v reason
   Refuses (tuple_tree ss) reason = Refuse ss reason
   Refuses (choice_tree ss) reason = Refuse ss reason
+  Refuses (noted_tree any_order s) reason = Refuses s reason
+  Refuses (noted_tree (admits check why) s) reason = (reason ≡ why) ⊎ Refuses s reason
 
   -- one of them does so
   pub Refuse : ShapeTrees → Reason → Type 0
@@ -41,6 +43,8 @@ abbrev mutual
 -- the reasons of a reader of values, and those for which the shape refuses
 abbrev pub IsReasonOf : ShapeTree → Reason → Type 0
 IsReasonOf s InvalidBitPattern = Refuses s InvalidBitPattern
+IsReasonOf s InvalidArrayVec = Refuses s InvalidArrayVec
+IsReasonOf s InvalidArrayString = Refuses s InvalidArrayString
 IsReasonOf s reason = IsValueReason reason
 
 -- ---- refusals: one other than want of memory comes only where this is not to be had

@@ -1,8 +1,10 @@
--- What a value keeps of a datum that was read: all but the pairs of a map before the last one with their key.
+-- What a value keeps of a datum that was read: all but the order of a heap's elements, and the pairs of a map before the
+-- last one with their key.
 use Rattle.std.specs.Prelude.{◌≡◌, ◌≢◌, ◌⊎◌, ℕ, zero, suc, List, [], ◌∷◌}
 use Rattle.std.specs.List.{AllByRecursion, AllZip, Contains}
+use Rattle.std.specs.List.Sorted.{IsPermutation}
 use Rattle.bitcode_shapes.specs.Datum.{Datum, Data, list, tuple, choice, no_data, datum_and, data_of, pair, first_in}
-use Rattle.bitcode_untyped.specs.ShapeTree.{ShapeTree, ShapeTrees, unit_tree, never_tree, leaf_tree, seq_tree, map_tree, tuple_tree, choice_tree, no_trees, tree_and}
+use Rattle.bitcode_untyped.specs.ShapeTree.{any_order, admits, ShapeTree, ShapeTrees, unit_tree, never_tree, leaf_tree, seq_tree, map_tree, tuple_tree, choice_tree, noted_tree, no_trees, tree_and}
 
 -- none of the pairs has the key
 abbrev pub HasNoKey : Datum → List Datum → Type 0
@@ -28,6 +30,14 @@ pub record AreEntriesOf (pairs entries : List Datum) : Type 0 where
 abbrev pub SameKey : (Datum → Datum → Type 0) → Datum → Datum → Type 0
 SameKey AreValues p q = (key : Datum) × (v : Datum) × (w : Datum) × (p ≡ pair key v) × (q ≡ pair key w) × AreValues v w
 
+-- two lists of the same elements, each in its own order
+pub record AreReordered (d e : Datum) : Type 0 where
+  pub first : List Datum
+  pub second : List Datum
+  pub of_first : d ≡ list (data_of first)
+  pub of_second : e ≡ list (data_of second)
+  pub reordered : IsPermutation first second
+
 abbrev mutual
   -- e is what a value keeps of d
   pub Restates : ShapeTree → Datum → Datum → Type 0
@@ -40,6 +50,8 @@ abbrev mutual
       × AreEntriesOf ps es
   Restates (tuple_tree ss) d e = (ds : Data) × (es : Data) × (d ≡ tuple ds) × (e ≡ tuple es) × RestatesFields ss ds es
   Restates (choice_tree ss) d e = (i : ℕ) × (x : Datum) × (y : Datum) × (d ≡ choice i x) × (e ≡ choice i y) × RestatesVariant ss i x y
+  Restates (noted_tree any_order s) d e = (kept : Datum) × Restates s d kept × AreReordered kept e
+  Restates (noted_tree (admits check reason) s) d e = Restates s d e
 
   -- so do the fields of a tuple, each of its shape
   pub RestatesFields : ShapeTrees → Data → Data → Type 0
@@ -53,16 +65,18 @@ abbrev mutual
   RestatesVariant (tree_and s ss) zero x y = Restates s x y
   RestatesVariant (tree_and s ss) (suc i) x y = RestatesVariant ss i x y
 
--- ---- shapes without maps: a value keeps all that was read
+-- ---- shapes without maps and heaps: a value keeps all that was read
 
 abbrev mutual
-  pub HasNoMap : ShapeTree → Type 0
-  HasNoMap (seq_tree s) = HasNoMap s
-  HasNoMap (map_tree k v) = ⊥
-  HasNoMap (tuple_tree ss) = HaveNoMap ss
-  HasNoMap (choice_tree ss) = HaveNoMap ss
-  HasNoMap _ = Unit {0}
+  pub KeepsAll : ShapeTree → Type 0
+  KeepsAll (seq_tree s) = KeepsAll s
+  KeepsAll (map_tree k v) = ⊥
+  KeepsAll (tuple_tree ss) = KeepAll ss
+  KeepsAll (choice_tree ss) = KeepAll ss
+  KeepsAll (noted_tree any_order s) = ⊥
+  KeepsAll (noted_tree (admits check reason) s) = KeepsAll s
+  KeepsAll _ = Unit {0}
 
-  pub HaveNoMap : ShapeTrees → Type 0
-  HaveNoMap no_trees = Unit {0}
-  HaveNoMap (tree_and s ss) = HasNoMap s × HaveNoMap ss
+  pub KeepAll : ShapeTrees → Type 0
+  KeepAll no_trees = Unit {0}
+  KeepAll (tree_and s ss) = KeepsAll s × KeepAll ss

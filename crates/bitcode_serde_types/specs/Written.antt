@@ -10,5 +10,5 @@ pub use Rattle.bitcode_serde_types.specs.Options.{option_datum}
 pub use Rattle.bitcode_serde_types.specs.Pairs.{map_datum, set_datum}
 pub use Rattle.bitcode_serde_types.specs.ReadingAs.{ReadsAs}
 pub use Rattle.bitcode_serde_types.specs.Refusals.{IsRefusalAt}
-pub use Rattle.bitcode_serde_types.specs.Restates.{HasNoMap}
+pub use Rattle.bitcode_serde_types.specs.Restates.{KeepsAll}
 pub use Rattle.bitcode_serde_types.specs.Results.{result_tree, result_datum}

@@ -8,7 +8,7 @@ ghost use Rattle.bitcode_untyped.specs.Spelling.{SpellsDatum};
 ghost use Rattle.bitcode_serde.specs.ReadingValues.{IsSteady, Continues};
 ghost use Rattle.bitcode_serde_types.specs.ReadingAs.{KeepsAs, ReadsAs, SpellsAs};
 ghost use Rattle.bitcode_serde_types.specs.Refusals.{IsRefusalAt, IsRefusalWithin, IsWholeRefusal};
-ghost use Rattle.bitcode_serde_types.specs.Restates.{Restates, HasNoMap};
+ghost use Rattle.bitcode_serde_types.specs.Restates.{Restates, KeepsAll};
 
 use crate::serialize_as::{DEEPEST, SerializeAs};
 use bitcode_memory::error::{Error, Reason};
@@ -67,14 +67,15 @@ fn read_whole<'a, T: DeserializeAs<'a>>(
 /// Decodes the bytes, which must spell exactly one value of the type's shape, without making a `Value` of it.
 ///
 /// Errors: `EOF`, `Expected EOF`, `invalid packing`, `length overflow`, `huge length`, `invalid utf8`,
-/// `invalid enum variant`, `invalid option`, `invalid char`, `too many zero sized types` and `nested too deep`, each
-/// only if the input spells no value of the shape, and `out of memory`.
+/// `invalid enum variant`, `invalid option`, `invalid char`, `too many zero sized types`, `nested too deep`, and of types
+/// that reject data `invalid bit pattern`, `invalid ArrayVec` and `invalid ArrayString`, each only if the input spells no
+/// value of the shape, and `out of memory`.
 ///
 /// A byte may spell up to 524296 elements, and each is allocated: decode untrusted input with
 /// [`deserialize_as_within`].
 pub fn deserialize_as<'a, T: DeserializeAs<'a>>(alloc: Global, bytes: &'a [u8]) -> Result<T, Error>
     ensures read { IfOk result (λ t. SpellsAs (T.tree 513) bytes.now (T.datum t)) }
-    ensures exact { HasNoMap (T.tree 513) → IfOk result
+    ensures exact { KeepsAll (T.tree 513) → IfOk result
         (λ t. SpellsDatum (T.tree 513) bytes.now (T.datum t)) }
     ensures refused { IfErr result
         (λ e. IsWholeRefusal (T.tree 513) (SpellsDatum (T.tree 513) bytes.now) e.reason) }
@@ -104,7 +105,7 @@ pub fn deserialize_as_within<'a, T: DeserializeAs<'a>>(
     limit: usize,
 ) -> Result<T, Error>
     ensures read { IfOk result (λ t. SpellsAs (T.tree 513) bytes.now (T.datum t)) }
-    ensures exact { HasNoMap (T.tree 513) → IfOk result
+    ensures exact { KeepsAll (T.tree 513) → IfOk result
         (λ t. SpellsDatum (T.tree 513) bytes.now (T.datum t)) }
     ensures within { (d : Datum) → SpellsDatum (T.tree 513) bytes.now d
         → OnOk result (node_count d ≤ limit) }

@@ -5,11 +5,14 @@ ghost use Rattle.std.specs.Prelude.{◌≡◌, ℕ, false, refl};
 ghost use Rattle.std.specs.Ordering.{eq_by_cmp};
 ghost use Rattle.bitcode_untyped.specs.Bounds.{column_free};
 ghost use Rattle.bitcode_serde_types.specs.Keys.{TellsKeys};
-ghost use Rattle.bitcode_serde_types.specs.Restates.{HasNoMap};
-ghost use Rattle.bitcode_serde_types.specs.LawfulKeys.{natural_keys, number_keys, text_keys};
+ghost use Rattle.bitcode_serde_types.specs.Restates.{KeepsAll};
+ghost use Rattle.bitcode_serde_types.specs.LawfulKeys.{array_string_keys, natural_keys, number_keys, text_keys};
+ghost use Rattle.bitcode_serde_types.specs.LawfulKeys.{uuid_keys};
 
 use crate::serialize_as::SerializeAs;
+use arrayvec::ArrayString;
 use std::cmp::Ord;
+use uuid::Uuid;
 
 /// A type whose values may be keys of a map.
 pub trait KeyAs: SerializeAs + Ord {
@@ -18,7 +21,7 @@ pub trait KeyAs: SerializeAs + Ord {
 
     ghost has_column: { (left : ℕ) → column_free (Self.tree left) ≡ false };
 
-    ghost has_no_map: { (left : ℕ) → HasNoMap (Self.tree left) };
+    ghost keeps_all: { (left : ℕ) → KeepsAll (Self.tree left) };
 }
 
 impl KeyAs for u8 {
@@ -26,7 +29,7 @@ impl KeyAs for u8 {
 
     ghost has_column = { λ left. refl };
 
-    ghost has_no_map = { λ left. tt };
+    ghost keeps_all = { λ left. tt };
 }
 
 impl KeyAs for u16 {
@@ -34,7 +37,7 @@ impl KeyAs for u16 {
 
     ghost has_column = { λ left. refl };
 
-    ghost has_no_map = { λ left. tt };
+    ghost keeps_all = { λ left. tt };
 }
 
 impl KeyAs for u32 {
@@ -42,7 +45,7 @@ impl KeyAs for u32 {
 
     ghost has_column = { λ left. refl };
 
-    ghost has_no_map = { λ left. tt };
+    ghost keeps_all = { λ left. tt };
 }
 
 impl KeyAs for u64 {
@@ -50,7 +53,7 @@ impl KeyAs for u64 {
 
     ghost has_column = { λ left. refl };
 
-    ghost has_no_map = { λ left. tt };
+    ghost keeps_all = { λ left. tt };
 }
 
 impl KeyAs for u128 {
@@ -58,7 +61,7 @@ impl KeyAs for u128 {
 
     ghost has_column = { λ left. refl };
 
-    ghost has_no_map = { λ left. tt };
+    ghost keeps_all = { λ left. tt };
 }
 
 impl KeyAs for i8 {
@@ -66,7 +69,7 @@ impl KeyAs for i8 {
 
     ghost has_column = { λ left. refl };
 
-    ghost has_no_map = { λ left. tt };
+    ghost keeps_all = { λ left. tt };
 }
 
 impl KeyAs for i16 {
@@ -74,7 +77,7 @@ impl KeyAs for i16 {
 
     ghost has_column = { λ left. refl };
 
-    ghost has_no_map = { λ left. tt };
+    ghost keeps_all = { λ left. tt };
 }
 
 impl KeyAs for i32 {
@@ -82,7 +85,7 @@ impl KeyAs for i32 {
 
     ghost has_column = { λ left. refl };
 
-    ghost has_no_map = { λ left. tt };
+    ghost keeps_all = { λ left. tt };
 }
 
 impl KeyAs for i64 {
@@ -90,7 +93,7 @@ impl KeyAs for i64 {
 
     ghost has_column = { λ left. refl };
 
-    ghost has_no_map = { λ left. tt };
+    ghost keeps_all = { λ left. tt };
 }
 
 impl KeyAs for i128 {
@@ -98,7 +101,7 @@ impl KeyAs for i128 {
 
     ghost has_column = { λ left. refl };
 
-    ghost has_no_map = { λ left. tt };
+    ghost keeps_all = { λ left. tt };
 }
 
 impl KeyAs for char {
@@ -106,7 +109,7 @@ impl KeyAs for char {
 
     ghost has_column = { λ left. refl };
 
-    ghost has_no_map = { λ left. tt };
+    ghost keeps_all = { λ left. tt };
 }
 
 impl KeyAs for String {
@@ -114,5 +117,21 @@ impl KeyAs for String {
 
     ghost has_column = { λ left. refl };
 
-    ghost has_no_map = { λ left. tt };
+    ghost keeps_all = { λ left. tt };
+}
+
+impl<const N: usize> KeyAs for ArrayString<N> {
+    ghost told = { array_string_keys };
+
+    ghost has_column = { λ left. refl };
+
+    ghost keeps_all = { λ left. tt };
+}
+
+impl KeyAs for Uuid {
+    ghost told = { uuid_keys };
+
+    ghost has_column = { λ left. refl };
+
+    ghost keeps_all = { λ left. tt };
 }

@@ -29,11 +29,11 @@ use std::rc::RcSlice;
 use std::slice;
 use std::sync::ArcSlice;
 
-// An iterator that lends elements.
-trait Lends<'b, T>: Drop {
+/// An iterator that lends elements.
+pub(crate) trait Lends<'b, T>: Drop {
     ghost rest: { Self → List T };
 
-    // The next element.
+    /// The next element.
     fn lend(&mut self) -> Option<&'b T>
         ensures next { IfSome result (λ item. rest self.old ≡ item.now ∷ rest self.new) }
         ensures end { IfNone result (rest self.old ≡ []) };
@@ -63,8 +63,8 @@ impl<'b, T> Lends<'b, T> for linked_list::Iter<'b, T> {
     }
 }
 
-// Writes a list of `count` elements that are lent.
-fn write_lent<'b, T: SerializeAs + 'b, L: Lends<'b, T>>(
+/// Writes a list of `count` elements that are lent.
+pub(crate) fn write_lent<'b, T: SerializeAs + 'b, L: Lends<'b, T>>(
     mut lent: L,
     count: usize,
     writer: &mut Writer,

@@ -63,6 +63,9 @@ pub(crate) fn read_text<'a>(
     ensures read { IfOk result
         (λ words. ReadsAs (λ s. text s.now) text_tree place reader.old budget.old words reader.new
         budget.new) }
+    ensures taken { budget.new ≡ spend 1 budget.old }
+    ensures entry { IfOk result
+        (λ words. ReadsAt text_tree place reader.old (text words.now) reader.new) }
     ensures refused { IfErr result (λ e. IsRefusalAt text_tree place reader.old e.reason) }
 {
     budget.take(1);

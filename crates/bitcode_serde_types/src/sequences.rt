@@ -1,17 +1,21 @@
 //! Lists.
 #![tactic(auto)]
 
-ghost use Rattle.std.specs.Prelude.{◌≤◌, length, map, IfOk, IfErr, OnOk};
+ghost use Rattle.std.specs.Prelude.{◌≡◌, ◌≤◌, length, map, IfOk, IfErr, OnOk};
 ghost use Rattle.bitcode_shapes.specs.Datum.{list, data_of};
 ghost use Rattle.bitcode_untyped.specs.ShapeTree.{seq_tree};
+ghost use Rattle.bitcode_serde.specs.Budget.{IsLeft};
 ghost use Rattle.bitcode_serde.specs.ReadingValues.{IsSteady, Continues};
-ghost use Rattle.bitcode_serde_types.specs.ReadingAs.{ReadsEachAs};
-ghost use Rattle.bitcode_serde_types.specs.Refusals.{IsListRefusalAt};
+ghost use Rattle.bitcode_serde_types.specs.Limited.{limited_tree};
+ghost use Rattle.bitcode_serde_types.specs.Lists.{list_datum};
+ghost use Rattle.bitcode_serde_types.specs.ReadingAs.{ReadsAs, ReadsEachAs};
+ghost use Rattle.bitcode_serde_types.specs.Refusals.{IsListRefusalAt, IsReasonOf, IsRefusalAt};
 
 use crate::deserialize_as::DeserializeAs;
 use crate::entering::{Elements, enter_list};
 use crate::serialize_as::SerializeAs;
-use bitcode_memory::error::Error;
+use bitcode_memory::error::{Error, Reason};
+use bitcode_memory::refuse::err;
 use bitcode_serde::budget::Budget;
 use bitcode_serde::reader::Reader;
 use bitcode_serde::walk::element_below;
@@ -37,6 +41,9 @@ impl<T: SerializeAs> SerializeAs for Vec<T> {
     }
 }
 
+// At first a list has room for so many elements at most: the input may lack the others.
+const FIRST_ROOM: usize = 256;
+
 // Reads the elements of a list.
 fn read_elements<'a, T: DeserializeAs<'a>>(
     alloc: Global,
@@ -51,10 +58,11 @@ fn read_elements<'a, T: DeserializeAs<'a>>(
     ensures read { IfOk result
         (λ v. ReadsEachAs T.datum (T.tree left) list.place reader.old budget.old list.count v.items
         reader.new budget.new) }
+    ensures all { IfOk result (λ v. IsLeft budget.new → length v.items ≡ list.count) }
     ensures refused { IfErr result
         (λ e. IsListRefusalAt (T.tree left) list.place reader.old list.count e.reason) }
 {
-    let mut values = Vec::new(alloc);
+    let mut values = Vec::with_capacity(alloc, list.count.min(FIRST_ROOM))?;
     for _i in 0..list.count {
         if budget.is_spent() && T::is_free() {
             return Ok(values);
@@ -81,4 +89,46 @@ impl<'a, T: DeserializeAs<'a>> DeserializeAs<'a> for Vec<T> {
         let values: Vec<T> = read_elements(alloc, reader, budget, left, list)?;
         Ok(values)
     }
+}
+
+/// How many elements a list may have, and for which reason another is rejected.
+#[derive(Drop)]
+pub(crate) struct Limits {
+    pub least: usize,
+    pub most: usize,
+    pub otherwise: Reason,
+}
+
+/// Reads the elements of a list of limited length.
+pub(crate) fn read_limited<'a, T: DeserializeAs<'a>>(
+    alloc: Global,
+    reader: &mut Reader<'a>,
+    budget: &mut Budget,
+    left: usize,
+    place: usize,
+    limits: Limits,
+) -> Result<Vec<T>, Error>
+    requires place { place ≤ length reader.old.places.below.items }
+    requires steady { IsSteady reader.old }
+    requires known { IsReasonOf
+        (limited_tree limits.least limits.most limits.otherwise (T.tree left)) limits.otherwise }
+    ensures continues { OnOk result (Continues reader.old reader.new) }
+    ensures all { IfOk result
+        (λ v. IsLeft budget.new
+        → (limits.least ≤ length v.items) × (length v.items ≤ limits.most)) }
+    ensures read { IfOk result
+        (λ v. ReadsAs (λ v. list_datum T.datum v.items)
+        (limited_tree limits.least limits.most limits.otherwise (T.tree left)) place reader.old
+        budget.old v reader.new budget.new) }
+    ensures refused { IfErr result
+        (λ e. IsRefusalAt
+        (limited_tree limits.least limits.most limits.otherwise (T.tree left)) place reader.old
+        e.reason) }
+{
+    let list = enter_list(reader, budget, T::is_free(), place)?;
+    if list.count < limits.least || list.count > limits.most {
+        return err(limits.otherwise);
+    }
+    let values: Vec<T> = read_elements(alloc, reader, budget, left, list)?;
+    Ok(values)
 }

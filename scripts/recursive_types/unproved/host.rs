@@ -24,6 +24,7 @@ pub struct Lists {
     pub ends: Range<i64>,
     pub within: RangeInclusive<char>,
     pub limits: Limits,
+    pub noted: Noted,
 }
 
 /// Types that have fewer values than their nodes.
@@ -32,6 +33,15 @@ pub struct Limits {
     pub count: NonZeroU64,
     pub offset: NonZeroI16,
     pub size: NonZeroUsize,
+}
+
+/// Types that say more of their data than the columns do.
+pub struct Noted {
+    pub id: Uuid,
+    pub few: ArrayVec<u16, 4>,
+    pub short: ArrayString<8>,
+    pub heap: BinaryHeap<u32>,
+    pub names: BTreeMap<Uuid, ArrayString<4>>,
 }
 
 /// Texts of each kind besides `String` and `&str`.

@@ -79,7 +79,7 @@ loop-i-preserved g c =
     let l = c.loop-i in
     let found = c.in_ok-found.found in
     pairs_more g.K.SerializeAs.datum g.V.SerializeAs.datum (g.K.SerializeAs.tree c.args.left) (g.V.SerializeAs.tree c.args.left) found.keys found.values
-    c.enter_map.new.reader l.reader c.enter_map.new.budget l.budget l._i l.pairs.items l.invariant (g.met.K.KeyAs.has_no_map c.args.left) c.read.new.reader
+    c.enter_map.new.reader l.reader c.enter_map.new.budget l.budget l._i l.pairs.items l.invariant (g.met.K.KeyAs.keeps_all c.args.left) c.read.new.reader
     c.read-in-loop-i.new.reader _ _ c.read-in-loop-i.new.budget c.keep.new.items.items c.in_ok-key.key c.in_ok-value.value c.take.ensures
     c.in_ok-key.ensures.continues c.in_ok-key.ensures.read c.in_ok-value.ensures.continues c.in_ok-value.ensures.read c.in_ok-keep.ensures.kept
 

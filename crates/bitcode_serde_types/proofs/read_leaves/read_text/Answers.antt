@@ -28,3 +28,7 @@ returns-clause-read c =
     one_kept (λ s. text s.now) (λ d. ReadsAt text_tree c.args.place c.args.reader.now d c.take_text.new.self) c.args.budget.now c.take.new.self c.in_ok-words.words
     refl c.take.ensures
     (leaf_led (texts None) any_number c.args.place c.args.reader.now c.take_text.new.self (text c.in_ok-words.words.now) tt c.in_ok-words.ensures.leads)
+
+pub returns-clause-entry : goal.returns-clause-entry
+returns-clause-entry c =
+    leaf_led (texts None) any_number c.args.place c.args.reader.now c.take_text.new.self (text c.in_ok-words.words.now) tt c.in_ok-words.ensures.leads

@@ -62,7 +62,7 @@ loop-i-preserved g c =
     let found = c.in_ok-found.found in
     let next = c.read.new.reader in
     pairs_more g.K.SerializeAs.datum (λ u. unit) (g.K.SerializeAs.tree c.args.left) unit_tree found.keys found.values
-    c.enter_map.new.reader l.reader c.enter_map.new.budget l.budget l._i (map with_unit l.keys.items) l.invariant (g.met.K.KeyAs.has_no_map c.args.left) next next _ c.read.new.budget
+    c.enter_map.new.reader l.reader c.enter_map.new.budget l.budget l._i (map with_unit l.keys.items) l.invariant (g.met.K.KeyAs.keeps_all c.args.left) next next _ c.read.new.budget
     c.take-in-loop-i.new.self (map with_unit c.keep.new.items.items) c.in_ok-key.key tt c.take.ensures c.in_ok-key.ensures.continues c.in_ok-key.ensures.read
     (record { steady = c.in_ok-key.ensures.continues.steady; asked = asked_alike next; kept = λ i p at. at })
     (unit_kept (λ u. unit) found.values next c.read.new.budget c.take-in-loop-i.new.self tt refl c.take-in-loop-i.ensures)
