@@ -1,5 +1,5 @@
 -- Refusals of values of Rust types, by those of their parts.
-use Rattle.std.proofs.Common.{◌≡◌, ◌≢◌, ◌⊎◌, inl, inr, ℕ, zero, suc, ◌<◌, List, refl, subst}
+use Rattle.std.proofs.Common.{◌≢◌, inl, inr, ℕ, zero, suc, ◌<◌, List, refl, subst}
 use Rattle.bitcode_memory.specs.declared.error.Reason.{Reason}
 use Rattle.bitcode_memory.specs.declared.error.Reason.TheVariants as reason
 use Rattle.bitcode_memory.specs.declared.error.Reason.TheVariants.{ExpectedEof, OutOfMemory, TooManyNodes}
@@ -7,7 +7,6 @@ use Rattle.bitcode_shapes.specs.Datum.{Datum}
 use Rattle.bitcode_coder.specs.Spelling.{natural}
 use Rattle.bitcode_untyped.specs.Machine.{State, start}
 use Rattle.bitcode_untyped.specs.Nodes.{node_count}
-use Rattle.bitcode_untyped.specs.Reads.{ReadsNoDatum}
 use Rattle.bitcode_untyped.specs.ShapeTree.{ShapeTree, ShapeTrees, seq_tree, choice_tree, no_trees, tree_and, tree_at}
 use Rattle.bitcode_untyped.specs.Spelling.{SpellsDatum}
 use Rattle.bitcode_untyped.specs.Walk.{Place, variant, index_kind}
@@ -19,7 +18,7 @@ use Rattle.bitcode_serde.proofs.FieldLemmas.{field_inside_refused as value_insid
 use Rattle.bitcode_serde.proofs.ValueLemmas.{list_stuck as value_list_stuck, seq_refused as value_seq_refused, choice_refused as value_choice_refused}
 use Rattle.bitcode_serde.proofs.WholeLemmas.{none_found as value_none_found}
 use Rattle.bitcode_serde_types.specs.Joined.{joined}
-use Rattle.bitcode_serde_types.specs.Refusals.{Refuses, Refuse, IsReasonOf, IsRefusalFor, IsRefusalAt, IsListRefusalAt, IsFieldRefusalAt, IsWholeRefusal, IsRefusalWithin}
+use Rattle.bitcode_serde_types.specs.Refusals.{Refuses, Refuse, IsReasonOf, IsRefusalAt, IsListRefusalAt, IsFieldRefusalAt, IsWholeRefusal, IsRefusalWithin}
 
 -- ---- reasons
 

@@ -67,9 +67,9 @@ fn read_whole<'a, T: DeserializeAs<'a>>(
 /// Decodes the bytes, which must spell exactly one value of the type's shape, without making a `Value` of it.
 ///
 /// Errors: `EOF`, `Expected EOF`, `invalid packing`, `length overflow`, `huge length`, `invalid utf8`,
-/// `invalid enum variant`, `invalid option`, `invalid char`, `too many zero sized types`, `nested too deep`, and of types
-/// that reject data `invalid bit pattern`, `invalid ArrayVec` and `invalid ArrayString`, each only if the input spells no
-/// value of the shape, and `out of memory`.
+/// `invalid enum variant`, `invalid option`, `invalid char`, `too many zero sized types`, `nested too deep`, and of
+/// types that reject data `invalid bit pattern`, `invalid ArrayVec` and `invalid ArrayString`, each only if the input
+/// spells no value of the shape, and `out of memory`.
 ///
 /// A byte may spell up to 524296 elements, and each is allocated: decode untrusted input with
 /// [`deserialize_as_within`].
