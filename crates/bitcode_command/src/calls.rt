@@ -79,40 +79,71 @@ fn limit_of(words: &ArgMatches<'_>) -> usize {
 }
 
 // The types of a schema file, and their format.
-#[derive(Drop)]
-struct Typed {
-    types: Types,
-    format: Format,
+#[derive(Clone, Copy)]
+struct Typed<'a> {
+    types: &'a Types,
+    format: &'a Format,
 }
 
-// What a call with a schema file is given.
-#[derive(Drop)]
-struct Given {
-    typed: Typed,
-    bytes: Vec<u8>,
+/// What a call with a schema file does.
+#[derive(Clone, Copy)]
+pub enum Action {
+    /// Shows the columns of the file.
+    Show,
+    /// Writes values as JSON, each in a line.
+    Decode,
+    /// Encodes a value that is given as JSON.
+    Encode,
+    /// Tells in a line whether the file has a value of the type.
+    Check,
 }
 
-// The types and their format.
-fn read_typed(
-    rt: &(impl AllocGlobal + Files + Input + Eprint),
+/// A call with a schema file.
+pub fn by_schema(
+    rt: &(impl AllocGlobal + Files + Input + Print + Eprint),
     words: &ArgMatches<'_>,
-    second: bool,
-) -> Result<Typed, Failure> {
-    let types = types_of(rt, words)?;
-    let format = format_of(rt.alloc(), words, &types, second)?;
-    Ok(Typed { types, format })
-}
-
-// The types, their format, and the bytes of the file.
-fn read_given(
-    rt: &(impl AllocGlobal + Files + Input + Eprint),
-    words: &ArgMatches<'_>,
-    second: bool,
     shows: bool,
-) -> Result<Given, Failure> {
-    let typed = read_typed(rt, words, second)?;
+    action: Action,
+) -> Result<(), Failure> {
+    let types = types_of(rt, words)?;
+    by_types(rt, words, &types, shows, action)
+}
+
+// The same by the types of the schema file.
+fn by_types(
+    rt: &(impl AllocGlobal + Files + Input + Print + Eprint),
+    words: &ArgMatches<'_>,
+    types: &Types,
+    shows: bool,
+    action: Action,
+) -> Result<(), Failure> {
+    let second = match action {
+        Action::Show => false,
+        _ => words.get_flag("second"),
+    };
+    let format = format_of(rt.alloc(), words, types, second)?;
+    let typed = Typed {
+        types,
+        format: &format,
+    };
+    on_file(rt, words, typed, shows, action)
+}
+
+// The same with the bytes of the file.
+fn on_file(
+    rt: &(impl AllocGlobal + Files + Input + Print + Eprint),
+    words: &ArgMatches<'_>,
+    typed: Typed<'_>,
+    shows: bool,
+    action: Action,
+) -> Result<(), Failure> {
     let bytes = read_bytes(rt, words.get_str("file"), shows)?;
-    Ok(Given { typed, bytes })
+    match action {
+        Action::Show => show(rt, words, typed.format, &bytes),
+        Action::Decode => decode(rt, words, typed, &bytes),
+        Action::Encode => encode(rt, words, typed, &bytes),
+        Action::Check => check(rt, words, typed.format, &bytes),
+    }
 }
 
 // Tells of the seal on standard output, if there is one.
@@ -131,22 +162,32 @@ fn eprint_seal(rt: &(impl AllocGlobal + Eprint), part: &Part<'_>) -> Result<(), 
     Ok(())
 }
 
-/// Writes values as JSON, each in a line.
-pub fn decode(
-    rt: &(impl AllocGlobal + Files + Input + Print + Eprint),
+// Writes values as JSON, each in a line.
+fn decode(
+    rt: &(impl AllocGlobal + Files + Print + Eprint),
     words: &ArgMatches<'_>,
-    shows: bool,
+    typed: Typed<'_>,
+    bytes: &[u8],
 ) -> Result<(), Failure> {
-    let given = read_given(rt, words, words.get_flag("second"), shows)?;
-    let parts = parts_of(rt.alloc(), words, &given.bytes)?;
-    let lines = decode_parts(rt, &given.typed, &parts, limit_of(words))?;
+    let parts = parts_of(rt.alloc(), words, bytes)?;
+    decode_parts(rt, words, typed, &parts)
+}
+
+// The same of the values in the file.
+fn decode_parts(
+    rt: &(impl AllocGlobal + Files + Print + Eprint),
+    words: &ArgMatches<'_>,
+    typed: Typed<'_>,
+    parts: &[Part<'_>],
+) -> Result<(), Failure> {
+    let lines = lines_of(rt, typed, parts, limit_of(words))?;
     write_bytes(rt, words.get_str("output"), &lines)
 }
 
 // The lines of the values.
-fn decode_parts(
+fn lines_of(
     rt: &(impl AllocGlobal + Eprint),
-    typed: &Typed,
+    typed: Typed<'_>,
     parts: &[Part<'_>],
     limit: usize,
 ) -> Result<Vec<u8>, Failure> {
@@ -161,13 +202,13 @@ fn decode_parts(
 // Puts the line of a value behind others.
 fn decode_part(
     alloc: Global,
-    typed: &Typed,
+    typed: Typed<'_>,
     bytes: &[u8],
     limit: usize,
     lines: Vec<u8>,
 ) -> Result<Vec<u8>, Failure> {
     let value = typed.format.decode(alloc, bytes, limit)?;
-    push_line(alloc, &typed.types, &value, lines)
+    push_line(alloc, typed.types, &value, lines)
 }
 
 fn push_line(
@@ -181,41 +222,55 @@ fn push_line(
     Ok(lines)
 }
 
-/// Encodes a value that is given as JSON.
-pub fn encode(
-    rt: &(impl AllocGlobal + Files + Input + Print + Eprint),
+// Encodes a value that is given as JSON.
+fn encode(
+    rt: &(impl AllocGlobal + Files + Print),
     words: &ArgMatches<'_>,
-    shows: bool,
+    typed: Typed<'_>,
+    bytes: &[u8],
 ) -> Result<(), Failure> {
-    let given = read_given(rt, words, words.get_flag("second"), shows)?;
-    let text = text_of(rt.alloc(), &given.bytes)?;
-    let bytes = encode_text(rt.alloc(), &given.typed, text)?;
+    let text = text_of(rt.alloc(), bytes)?;
+    let bytes = encode_text(rt.alloc(), typed, text)?;
     write_bytes(rt, words.get_str("output"), &bytes)
 }
 
 // The bytes of the value that is given as JSON.
-fn encode_text(alloc: Global, typed: &Typed, text: &str) -> Result<Vec<u8>, Failure> {
+fn encode_text(alloc: Global, typed: Typed<'_>, text: &str) -> Result<Vec<u8>, Failure> {
     let value = value_of(alloc, typed, text)?;
     typed.format.encode(alloc, &value)
 }
 
 // The value that is given as JSON.
-fn value_of(alloc: Global, typed: &Typed, text: &str) -> Result<Value, Fault> {
+fn value_of(alloc: Global, typed: Typed<'_>, text: &str) -> Result<Value, Fault> {
     let mut scratch = Scratch::new(alloc);
-    let json = parse(alloc, text, &mut scratch)?;
-    from_json(alloc, &typed.types, &json, typed.format.is_second())
+    value_in(alloc, typed, text, &mut scratch)
 }
 
-/// Tells in a line whether the file has a value of the type.
-pub fn check(
-    rt: &(impl AllocGlobal + Files + Input + Print + Eprint),
+// The same, with room for the texts of the JSON.
+fn value_in<'a>(
+    alloc: Global,
+    typed: Typed<'_>,
+    text: &'a str,
+    scratch: &'a mut Scratch,
+) -> Result<Value, Fault> {
+    let json = parse(alloc, text, scratch)?;
+    from_json(alloc, typed.types, &json, typed.format.is_second())
+}
+
+// Tells in a line whether the file has a value of the type.
+fn check(
+    rt: &(impl AllocGlobal + Print),
     words: &ArgMatches<'_>,
-    shows: bool,
+    format: &Format,
+    bytes: &[u8],
 ) -> Result<(), Failure> {
-    let given = read_given(rt, words, words.get_flag("second"), shows)?;
-    let parts = parts_of(rt.alloc(), words, &given.bytes)?;
-    check_parts(rt, words, &given.typed.format, &parts)?;
-    let count = given.bytes.len();
+    let parts = parts_of(rt.alloc(), words, bytes)?;
+    check_parts(rt, words, format, &parts)?;
+    print_accepted(rt, bytes.len())
+}
+
+// Tells that so many bytes are accepted.
+fn print_accepted(rt: &impl Print, count: usize) -> Result<(), Failure> {
     let unit = if count == 1 { "byte" } else { "bytes" };
     println!(rt; "ok: {count} {unit}")?;
     Ok(())
@@ -236,15 +291,15 @@ fn check_parts(
     Ok(())
 }
 
-/// Shows the columns of the file.
-pub fn show(
-    rt: &(impl AllocGlobal + Files + Input + Print + Eprint),
+// Shows the columns of the file.
+fn show(
+    rt: &(impl AllocGlobal + Files + Print),
     words: &ArgMatches<'_>,
-    shows: bool,
+    format: &Format,
+    bytes: &[u8],
 ) -> Result<(), Failure> {
-    let given = read_given(rt, words, false, shows)?;
-    let parts = parts_of(rt.alloc(), words, &given.bytes)?;
-    show_parts(rt, words, &given.typed.format, &parts)
+    let parts = parts_of(rt.alloc(), words, bytes)?;
+    show_parts(rt, words, format, &parts)
 }
 
 // Shows the columns of the values.
@@ -318,13 +373,22 @@ pub fn seal(
     words: &ArgMatches<'_>,
     shows: bool,
 ) -> Result<(), Failure> {
-    let alloc = rt.alloc();
     let Some(kind) = kind_of(words.get_str("kind").unwrap_or("")) else {
-        return Err(Failure::of_words(alloc, "expected `--kind` and a number below 2^32"));
+        return Err(Failure::of_words(rt.alloc(), "expected `--kind` and a number below 2^32"));
     };
     let version = words.get_one::<u16>("version").unwrap_or(0);
     let bytes = read_bytes(rt, words.get_str("file"), shows)?;
-    let out = sealed(alloc, Label { kind, version }, &bytes)?;
+    write_sealed(rt, words, Label { kind, version }, &bytes)
+}
+
+// Writes the bytes with their header and checksum.
+fn write_sealed(
+    rt: &(impl AllocGlobal + Files + Print),
+    words: &ArgMatches<'_>,
+    label: Label,
+    bytes: &[u8],
+) -> Result<(), Failure> {
+    let out = sealed(rt.alloc(), label, bytes)?;
     write_bytes(rt, words.get_str("output"), &out)
 }
 
@@ -342,7 +406,16 @@ pub fn open(
     shows: bool,
 ) -> Result<(), Failure> {
     let bytes = read_bytes(rt, words.get_str("file"), shows)?;
-    let out = opened(rt.alloc(), &bytes, words.get_flag("many"))?;
+    write_opened(rt, words, &bytes)
+}
+
+// Writes the bytes of the sealed values.
+fn write_opened(
+    rt: &(impl AllocGlobal + Files + Print),
+    words: &ArgMatches<'_>,
+    bytes: &[u8],
+) -> Result<(), Failure> {
+    let out = opened(rt.alloc(), bytes, words.get_flag("many"))?;
     write_bytes(rt, words.get_str("output"), &out)
 }
 

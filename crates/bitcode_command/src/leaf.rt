@@ -2,14 +2,24 @@
 use crate::node::Node;
 use bitcode_schema::schema::IntKind;
 
+// The names of an integer type and of the same except 0, and its kind.
+const INTEGERS: [(&str, &str, IntKind); 12] = [
+    ("u8", "NonZeroU8", IntKind::U8),
+    ("u16", "NonZeroU16", IntKind::U16),
+    ("u32", "NonZeroU32", IntKind::U32),
+    ("u64", "NonZeroU64", IntKind::U64),
+    ("usize", "NonZeroUsize", IntKind::U64),
+    ("u128", "NonZeroU128", IntKind::U128),
+    ("i8", "NonZeroI8", IntKind::I8),
+    ("i16", "NonZeroI16", IntKind::I16),
+    ("i32", "NonZeroI32", IntKind::I32),
+    ("i64", "NonZeroI64", IntKind::I64),
+    ("isize", "NonZeroIsize", IntKind::I64),
+    ("i128", "NonZeroI128", IntKind::I128),
+];
+
 /// The node of a type without parameters.
 pub fn leaf(name: &str) -> Option<Node> {
-    if let Some(kind) = integer(name) {
-        return Some(Node::Int(kind));
-    }
-    if let Some(kind) = non_zero(name) {
-        return Some(Node::NonZero(kind));
-    }
     match name {
         "()" => Some(Node::Unit),
         "bool" => Some(Node::Bool),
@@ -19,40 +29,19 @@ pub fn leaf(name: &str) -> Option<Node> {
         "String" => Some(Node::Text(None)),
         "Duration" => Some(Node::Duration),
         "Uuid" => Some(Node::Uuid),
-        _ => None,
+        _ => integer(name),
     }
 }
 
-// The kind of an integer.
-fn integer(name: &str) -> Option<IntKind> {
-    match name {
-        "u8" => Some(IntKind::U8),
-        "u16" => Some(IntKind::U16),
-        "u32" => Some(IntKind::U32),
-        "u64" | "usize" => Some(IntKind::U64),
-        "u128" => Some(IntKind::U128),
-        "i8" => Some(IntKind::I8),
-        "i16" => Some(IntKind::I16),
-        "i32" => Some(IntKind::I32),
-        "i64" | "isize" => Some(IntKind::I64),
-        "i128" => Some(IntKind::I128),
-        _ => None,
+// The node of an integer.
+fn integer(name: &str) -> Option<Node> {
+    for (any, non_zero, kind) in &INTEGERS {
+        if name == *any {
+            return Some(Node::Int(*kind));
+        }
+        if name == *non_zero {
+            return Some(Node::NonZero(*kind));
+        }
     }
-}
-
-// The kind of an integer except 0.
-fn non_zero(name: &str) -> Option<IntKind> {
-    match name.strip_prefix("NonZero")? {
-        "U8" => Some(IntKind::U8),
-        "U16" => Some(IntKind::U16),
-        "U32" => Some(IntKind::U32),
-        "U64" | "Usize" => Some(IntKind::U64),
-        "U128" => Some(IntKind::U128),
-        "I8" => Some(IntKind::I8),
-        "I16" => Some(IntKind::I16),
-        "I32" => Some(IntKind::I32),
-        "I64" | "Isize" => Some(IntKind::I64),
-        "I128" => Some(IntKind::I128),
-        _ => None,
-    }
+    None
 }

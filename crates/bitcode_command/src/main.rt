@@ -32,6 +32,7 @@ mod table;
 mod to_json;
 mod words;
 
+use crate::calls::{Action, by_schema};
 use crate::failure::Failure;
 use clap::ArgMatches;
 use std::env;
@@ -39,38 +40,67 @@ use std::io::IsTerminal;
 use std::process::ExitCode;
 use std::rt::Files;
 
+// What a call of this name does, if it has a schema file.
+fn action_of(name: &str) -> Option<Action> {
+    match name {
+        "columns" => Some(Action::Show),
+        "decode" => Some(Action::Decode),
+        "encode" => Some(Action::Encode),
+        "check" => Some(Action::Check),
+        _ => None,
+    }
+}
+
 fn call(
     rt: &(impl AllocGlobal + Files + Input + Print + Eprint),
     matches: &ArgMatches<'_>,
     shows: bool,
 ) -> Result<(), Failure> {
-    match matches.subcommand() {
-        Some(("columns", words)) => calls::show(rt, words, shows),
-        Some(("decode", words)) => calls::decode(rt, words, shows),
-        Some(("encode", words)) => calls::encode(rt, words, shows),
-        Some(("check", words)) => calls::check(rt, words, shows),
-        Some(("seal", words)) => calls::seal(rt, words, shows),
-        Some(("open", words)) => calls::open(rt, words, shows),
+    let Some((name, words)) = matches.subcommand() else {
+        return Ok(());
+    };
+    if let Some(action) = action_of(name) {
+        return by_schema(rt, words, shows, action);
+    }
+    match name {
+        "seal" => calls::seal(rt, words, shows),
+        "open" => calls::open(rt, words, shows),
         _ => Ok(()),
     }
 }
 
-fn main(rt: HostRuntime) -> anyhow::Result<ExitCode> {
-    let alloc = rt.alloc();
-    let given: Vec<String> = env::args(&rt)?.collect(alloc)?;
-    let matches = match words::command(alloc)?.try_get_matches_from(given.as_slice()) {
-        Ok(matches) => matches,
-        Err(error) => {
-            error.print(&rt)?;
-            return Ok(ExitCode::from(error.exit_code() as u8));
-        }
-    };
-    let shows = rt.stderr().is_terminal();
-    match call(&rt, &matches, shows) {
+// Answers the words with the call that they name.
+fn answer(
+    rt: &(impl AllocGlobal + Files + Input + Print + Eprint),
+    matches: &ArgMatches<'_>,
+    shows: bool,
+) -> anyhow::Result<ExitCode> {
+    match call(rt, matches, shows) {
         Ok(()) => Ok(ExitCode::SUCCESS),
         Err(failure) => {
             eprintln!(rt; "bitcode: {failure}")?;
             Ok(ExitCode::from(failure.status()))
         }
     }
+}
+
+// Answers the words that the program is given.
+fn run(
+    rt: &(impl AllocGlobal + Files + Input + Print + Eprint),
+    given: &[String],
+    shows: bool,
+) -> anyhow::Result<ExitCode> {
+    match words::command(rt.alloc())?.try_get_matches_from(given) {
+        Ok(matches) => answer(rt, &matches, shows),
+        Err(error) => {
+            error.print(rt)?;
+            Ok(ExitCode::from(error.exit_code() as u8))
+        }
+    }
+}
+
+fn main(rt: HostRuntime) -> anyhow::Result<ExitCode> {
+    let given: Vec<String> = env::args(&rt)?.collect(rt.alloc())?;
+    let shows = rt.stderr().is_terminal();
+    run(&rt, &given, shows)
 }

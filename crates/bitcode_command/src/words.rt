@@ -195,49 +195,26 @@ fn call_of<'a>(alloc: Global, call: &Call) -> Result<Command<'a>, AllocError> {
 
 // A word, as the reader of words knows it.
 fn arg<'a>(alloc: Global, word: Word) -> Arg<'a> {
+    let arg = Arg::new(alloc, word.name).help(word.help);
     match word.kind {
-        WordKind::File => file(alloc, word),
-        WordKind::Flag => flag(alloc, word),
-        WordKind::Text(value) => text(alloc, word, value),
-        WordKind::Needed(value) => text(alloc, word, value).required(true),
-        WordKind::Nodes => nodes(alloc, word),
-        WordKind::Version => version(alloc, word),
+        WordKind::File => arg.value_name("FILE"),
+        WordKind::Flag => arg.long(word.name).action(ArgAction::SetTrue),
+        WordKind::Text(value) => with_text(arg, word, value),
+        WordKind::Needed(value) => with_text(arg, word, value).required(true),
+        WordKind::Nodes => with_text(arg, word, "NODES")
+            .value_parser(value_parser!(u64))
+            .default_value(LIMIT),
+        WordKind::Version => with_text(arg, word, "VERSION")
+            .value_parser(value_parser!(u16))
+            .required(true),
     }
 }
 
-fn file<'a>(alloc: Global, word: Word) -> Arg<'a> {
-    Arg::new(alloc, word.name)
-        .help(word.help)
-        .value_name("FILE")
-}
-
-fn flag<'a>(alloc: Global, word: Word) -> Arg<'a> {
-    Arg::new(alloc, word.name)
-        .help(word.help)
-        .long(word.name)
-        .action(ArgAction::SetTrue)
-}
-
-// A word with a text behind it.
-fn text<'a>(alloc: Global, word: Word, value: &'a str) -> Arg<'a> {
-    let arg = Arg::new(alloc, word.name)
-        .help(word.help)
-        .long(word.name)
-        .value_name(value);
+// The same with a text behind it.
+fn with_text<'a>(arg: Arg<'a>, word: Word, value: &'a str) -> Arg<'a> {
+    let arg = arg.long(word.name).value_name(value);
     match word.short {
         Some(short) => arg.short(short),
         None => arg,
     }
-}
-
-fn nodes<'a>(alloc: Global, word: Word) -> Arg<'a> {
-    text(alloc, word, "NODES")
-        .value_parser(value_parser!(u64))
-        .default_value(LIMIT)
-}
-
-fn version<'a>(alloc: Global, word: Word) -> Arg<'a> {
-    text(alloc, word, "VERSION")
-        .value_parser(value_parser!(u16))
-        .required(true)
 }
