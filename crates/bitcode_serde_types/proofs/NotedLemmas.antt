@@ -1,6 +1,6 @@
 -- Shapes with a note: what is written and read of the shape in it, and what the note refuses.
 use Rattle.std.proofs.Common.{◌≡◌, ◌⊎◌, inl, inr, ℕ, ◌≤◌, ◌<◌, true, List, length, map, refl, ap, sym, subst, ◌∙◌, arith}
-use Rattle.std.specs.Prelude.{Result, Ok, Err, nat_le}
+use Rattle.std.specs.Prelude.{Result, nat_le}
 use Rattle.std.specs.List.Sorted.{IsPermutation}
 use Rattle.std.proofs.lemmas.Bool.{and_from, and_parts, le-leb, leb-true}
 use Rattle.std.proofs.lemmas.List.{length-map}
@@ -17,7 +17,7 @@ use Rattle.bitcode_untyped.specs.Reads.{ReadsDatum}
 use Rattle.bitcode_untyped.specs.ShapeTree.{Note, any_order, admits, ShapeTree, seq_tree, noted_tree, text_tree, IsAdmitted}
 use Rattle.bitcode_untyped.specs.Walk.{Place, use_at, length_kind}
 use Rattle.bitcode_untyped.proofs.OnceLemmas.{takes_one}
-use Rattle.bitcode_untyped.proofs.ReadLemmas.{noted_read, noted_stuck, noted_refused}
+use Rattle.bitcode_untyped.proofs.ReadLemmas.{noted_read}
 use Rattle.bitcode_serde.specs.Budget.{spend}
 use Rattle.bitcode_serde.specs.ReadingValues.{EntersList, ReadsAt}
 use Rattle.bitcode_serde.specs.Serializing.{Outcome}
@@ -25,6 +25,8 @@ use Rattle.bitcode_serde.specs.declared.budget.Budget.{Budget}
 use Rattle.bitcode_serde.specs.declared.reader.Reader.{Reader}
 use Rattle.bitcode_serde.specs.declared.writer.state.Writer.{Writer}
 use Rattle.bitcode_serde.proofs.SerializeLemmas.{listed}
+use Rattle.bitcode_serde.proofs.ValueLemmas.{noted_read_at, none_noted, none_admitted}
+use Rattle.bitcode_serde.proofs.WalkLemmas.{noted_outcome}
 use Rattle.bitcode_serde_types.specs.DeepFaults.{deep_faults}
 use Rattle.bitcode_serde_types.specs.Heaps.{heap_tree}
 use Rattle.bitcode_serde_types.specs.Limited.{is_within, has_length, limited_tree, fits_in, array_string_tree}
@@ -33,12 +35,6 @@ use Rattle.bitcode_serde_types.specs.ReadingAs.{ReadsAs}
 use Rattle.bitcode_serde_types.specs.Refusals.{Refuses, IsReasonOf, IsRefusalAt}
 use Rattle.bitcode_serde_types.proofs.KeptLemmas.{one_kept}
 use Rattle.bitcode_serde_types.proofs.RefusalLemmas.{reason_up}
-
-pub noted_written : {A : Type 0} (note : Note) (s : ShapeTree) (old : Writer) (n : ℕ) (d : Datum) (faults : List Reason) (r : Result A Error) (new : Writer)
-    → IsAdmitted note d → Outcome old s n d faults r new → Outcome old (noted_tree note s) n d faults r new
-noted_written note s old n d faults (Ok a) new admitted o =
-    record { written = o.written; of_tree = (o.of_tree, admitted); whole = o.whole; refused = tt }
-noted_written note s old n d faults (Err e) new admitted o = record { written = tt; of_tree = tt; whole = tt; refused = o.refused }
 
 -- what is refused without the note is refused with it
 pub note_refuses : (note : Note) (s : ShapeTree) (why : Reason) → Refuses s why → Refuses (noted_tree note s) why
@@ -49,7 +45,7 @@ pub noted_refused_too : (note : Note) (s : ShapeTree) (place : ℕ) (old : Reade
     → IsRefusalAt (noted_tree note s) place old why
 noted_refused_too note s place old why h = (
   reason_up s (noted_tree note s) why (note_refuses note s why) h.0,
-  λ other p at a st. noted_stuck note s p a (h.1 other p at a st),
+  λ other. none_noted note s place old (h.1 other),
 )
 
 -- ---- lists of limited length
@@ -107,7 +103,7 @@ pub limited_written : {A B : Type 0} (s : ShapeTree) (f : A → Datum) (least mo
     → Outcome old (limited_tree least most reason s) n (list_datum f ys) (deep_faults (seq_tree s) (list_datum f ys)) r new
 limited_written s f least most reason old n xs ys r new same low high o =
     let size : length ys ≡ length (elements_in (list_datum f ys)) = sym (ap length (listed (map f ys)) ∙ length-map ys f) in
-    noted_written (has_length least most reason) (seq_tree s) old n (list_datum f ys) (deep_faults (seq_tree s) (list_datum f ys)) r new
+    noted_outcome (has_length least most reason) old new (seq_tree s) n (list_datum f ys) (deep_faults (seq_tree s) (list_datum f ys)) r
     (subst (λ m. is_within least most m ≡ true) size (within least most (length ys) low high))
     (subst (λ zs. Outcome old (seq_tree s) n (list_datum f zs) (deep_faults (seq_tree s) (list_datum f zs)) r new) same o)
 
@@ -119,16 +115,12 @@ module _ (capacity place : ℕ) (old new : Reader) (bytes : List ℕ) (read : Re
   short_text_kept f before after a is taken fits =
       one_kept f (λ d. ReadsAt (array_string_tree capacity) place old d new) before after a (ap node_count is) taken
       (subst (λ d. ReadsAt (array_string_tree capacity) place old d new) (sym is)
-      (λ p at st stands.
-      let r = read p at st stands in
-      (r.0, r.1, noted_read (fits_in capacity) text_tree p st (text bytes) r.0 (le-leb (length bytes) capacity fits) r.2)))
+      (noted_read_at (fits_in capacity) text_tree place old (text bytes) new (le-leb (length bytes) capacity fits) read))
 
   pub long_text_refused : (length bytes ≤ capacity → ⊥) → IsRefusalAt (array_string_tree capacity) place old InvalidArrayString
   long_text_refused long = (
     inl refl,
-    λ other p at st stands.
-        let r = read p at st stands in
-        noted_refused (fits_in capacity) text_tree p st (text bytes) r.0 r.2 (λ h. long (leb-true (length bytes) capacity h)),
+    λ other. none_admitted (fits_in capacity) text_tree place old (text bytes) new read (λ h. long (leb-true (length bytes) capacity h)),
   )
 
 -- ---- heaps
@@ -137,7 +129,7 @@ pub heap_written : {A B : Type 0} (s : ShapeTree) (f : A → Datum) (old : Write
     → Outcome old (seq_tree s) n (list_datum f xs) (deep_faults (seq_tree s) (list_datum f xs)) r new
     → Outcome old (heap_tree s) n (list_datum f ys) (deep_faults (seq_tree s) (list_datum f ys)) r new
 heap_written s f old n xs ys r new same o =
-    noted_written any_order (seq_tree s) old n (list_datum f ys) (deep_faults (seq_tree s) (list_datum f ys)) r new tt
+    noted_outcome any_order old new (seq_tree s) n (list_datum f ys) (deep_faults (seq_tree s) (list_datum f ys)) r tt
     (subst (λ zs. Outcome old (seq_tree s) n (list_datum f zs) (deep_faults (seq_tree s) (list_datum f zs)) r new) same o)
 
 pub heap_kept : {A B : Type 0} (f : A → Datum) (s : ShapeTree) (place : ℕ) (old new : Reader) (before after : Budget) (values : B → List A) (b : B) {C : Type 0}
@@ -145,7 +137,7 @@ pub heap_kept : {A B : Type 0} (f : A → Datum) (s : ShapeTree) (place : ℕ) (
     → ReadsAs (λ c. list_datum f (items c)) (heap_tree s) place old before c new after
 heap_kept f s place old new before after values b items c moved k = record {
   datum = k.datum;
-  read = λ p at a st. let r = k.read p at a st in (r.0, r.1, noted_read any_order (seq_tree s) p a k.datum r.0 tt r.2);
+  read = noted_read_at any_order (seq_tree s) place old k.datum new tt k.read;
   taken = k.taken;
   same = λ left. (
     list_datum f (values b),
