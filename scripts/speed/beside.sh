@@ -10,11 +10,14 @@
 # then says `ready` and, if READY names a file, waits until that is there: so the machine can be idle by then. The times
 # take three minutes.
 #
-# The library is compiled without a proof, in two minutes, as optimized as a proved one. With --proved it is proved
-# (without the data sets) and built as a static library, which takes over an hour where `rt ci` has not yet proved it on
-# this machine. CPU=x86-64-v3 compiles all for that processor (x86-64-v2 otherwise), OUT=FOLDER keeps what was built,
-# ONLY=WORD takes the workloads that have the word in their name, SIZES=1000 takes lists of these lengths, and RUNS=5
-# measures five times and prints the median of each time.
+# The library is compiled without a proof, in two minutes, as optimized as a proved one. With --proved it is proved and
+# built as a static library, without the players, the updates and the borrowed lines. That takes half an hour, and over
+# an hour more where `rt ci` has not yet proved the library on this machine.
+#
+# CPU=x86-64-v3 compiles all for that processor (x86-64-v2 otherwise), OUT=FOLDER keeps what was built, ONLY=WORD takes
+# the workloads that have the word in their name, SIZES=1000 takes lists of these lengths, and RUNS=5 measures five
+# times and prints the median of each time.
+#
 # REGISTRY=FOLDER has the sources of bincode and serde, if cargo is not to fetch them: Debian's librust-bincode-dev,
 # librust-serde-dev, librust-serde-derive-dev, librust-arrayvec-dev and librust-uuid-dev put them into
 # /usr/share/cargo/registry, which is where texts of the crate take them from. The status is 2 where something is
@@ -34,8 +37,9 @@ else
   trap 'rm -rf "$work"' EXIT
 fi
 if [ -n "$is_proved" ]; then
-  # The types of the data sets take long to prove.
-  grep -v '^set' scripts/speed/comparison/workloads.tsv >"$work/workloads.tsv" || exit 2
+  # The checker stops at its step limit where a list of players is decoded, and does not cover calls for a struct that
+  # holds a list of structs with a lifetime. The proof of the calls for updates was never run to its end.
+  grep -v 'Players\|Borrowed\|Updates' scripts/speed/comparison/workloads.tsv >"$work/workloads.tsv" || exit 2
   export WORKLOADS=$work/workloads.tsv
 fi
 if [ -n "$is_proved" ]; then proved_ours "$work"; else unproved_ours "$work"; fi

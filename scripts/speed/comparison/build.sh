@@ -35,19 +35,34 @@ unproved_ours() {
   "$here/unproved.py" "$ours" "$1" "$cpu" >"$work/log" 2>&1 || fail "the library does not compile"
 }
 
-# proved_ours FOLDER: the same, proved.
+# proved_ours FOLDER: the same, proved. `rt ci` proves the library, unless it has done so on this machine; `rt lib`
+# would prove it anew.
 proved_ours() {
   start_ours "$1"
-  for part in crates/*/specs crates/*/proofs; do cp -r "$part" "$1/ours/$part" || exit 2; done
-  "$here/exports.py" rattle library >"$ours/src/lib.rt" || exit 2
-  # A check rejects files that no `mod` names: those of types of workloads that are left out.
-  local file
-  for file in "$ours"/src/*.rt; do
-    [ "$file" = "$ours/src/lib.rt" ] || grep -qx "pub mod $(basename "$file" .rt);" "$ours/src/lib.rt" || rm "$file"
+  local crate part file kit words calls=$1/calls
+  mv "$ours" "$calls" && rm -rf "$1/ours/crates" && mkdir "$1/ours/crates" && >"$1/ours/crates.txt" || exit 2
+  for crate in $(library_crates); do
+    mkdir "$1/ours/crates/$crate" && grep "^$crate:" crates.txt >>"$1/ours/crates.txt" || exit 2
+    for part in src specs proofs; do
+      [ ! -d "crates/$crate/$part" ] || cp -r "crates/$crate/$part" "$1/ours/crates/$crate" || exit 2
+    done
   done
-  echo "ours staticlib: $libraries" >>"$1/ours/crates.txt" || exit 2
-  (cd "$ours" && rt fmt && rt lib --cpu "$cpu") >"$work/log" 2>&1 || fail "the library is not proved"
-  cp "$ours/out/libours.a" "$1/libours.a" || exit 2
+  (cd "$1/ours" && rt ci) >"$work/log" 2>&1 || fail "the libraries are not proved"
+
+  "$here/exports.py" rattle library >"$calls/src/lib.rt" || exit 2
+  # A check rejects files that no `mod` names: those of types of workloads that are left out.
+  for file in "$calls"/src/*.rt; do
+    [ "${file##*/}" = lib.rt ] || grep -qx "pub mod $(basename "$file" .rt);" "$calls/src/lib.rt" || rm "$file"
+  done
+  kit=$(dirname "$(rt doc)")
+  words=(--crate-name ours src/lib.rt --crate-type staticlib --cpu "$cpu" --links ours=)
+  words+=(--extern "std=$kit/rlibs/std.rlib")
+  for crate in $libraries; do words+=(--extern "$crate=$1/ours/crates/$crate/out/rlib/$crate.rlib"); done
+  for crate in $(library_crates); do words+=(-L "dependency=$1/ours/crates/$crate/out/rlib"); done
+  words+=(-L "dependency=$kit/rlibs" --antt-project "$kit/rattle/logic/antt-project.json")
+  words+=(--logic-built "$kit/logic_built" --toolchain "$kit/toolchain" --incremental "$1/checked" --jobs "$(nproc)")
+  mkdir -p "$1/checked" || exit 2
+  (cd "$calls" && rattle build "${words[@]}" -o "$1/libours.a") >"$work/log" 2>&1 || fail "the calls are not proved"
 }
 
 # build_driver LIBRARY..: the driver, linked with libours.a and the other libraries of `work`, `ours` among them.

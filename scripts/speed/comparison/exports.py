@@ -186,43 +186,16 @@ fn map(alloc: Global) -> Result<ShapeNode, Error> {
     Ok(ShapeNode::Map(key, Box::new(alloc, ShapeNode::Str)?))
 }
 """
-# What the data sets need besides.
-SETS = """use crate::borrowed_logs::BorrowedLogs;
-use crate::borrowed_players::BorrowedPlayers;
-use crate::logs::Logs;
-use crate::mesh::Mesh;
-use crate::players::Players;
-use crate::updates::Updates;
-"""
-MODULES = """pub mod abilities;
-pub mod address;
-pub mod borrowed_entity;
-pub mod borrowed_item;
-pub mod borrowed_log;
-pub mod borrowed_logs;
-pub mod borrowed_player;
-pub mod borrowed_players;
-pub mod borrowed_recipe_book;
-pub mod contact;
-pub mod entity;
-pub mod entity_type;
-pub mod game_type;
-pub mod guidance;
-pub mod item;
-pub mod log;
-pub mod logs;
-pub mod mesh;
-pub mod origin;
-pub mod player;
-pub mod players;
-pub mod recipe_book;
-pub mod terrain_update;
-pub mod transform;
-pub mod triangle;
-pub mod update;
-pub mod updates;
-pub mod vector3;
-"""
+# The modules of each data set's types, the last of which has its list.
+SETS = {
+    "Logs": "address log logs",
+    "BorrowedLogs<'a>": "origin borrowed_log borrowed_logs",
+    "Mesh": "vector3 triangle mesh",
+    "Players": "abilities entity game_type item recipe_book player players",
+    "BorrowedPlayers<'a>": "abilities game_type borrowed_entity borrowed_item borrowed_recipe_book borrowed_player "
+    "borrowed_players",
+    "Updates": "contact entity_type guidance terrain_update transform update updates",
+}
 # The calls of a workload: the letter in the names of the functions, and what each does in the first format, in the second
 # format with a `Value`, and in the second format with a Rust type.
 CALLS = {
@@ -249,9 +222,11 @@ def export(name, body, life=""):
 
 
 def rattle(is_program):
-    has_sets = any(form == "set" for _number, form, *_ in workloads())
-    modules, uses, rest = HEAD.partition("use ")
-    print(modules.rstrip("\n") + "\n" + (MODULES if has_sets else "") + "\n" + (SETS if has_sets else "") + uses + rest)
+    sets = {ours: SETS[ours].split() for _number, form, _name, _type, _value, ours in workloads() if form == "set"}
+    head, uses, rest = HEAD.partition("use ")
+    modules = "".join(f"pub mod {module};\n" for module in sorted({one for every in sets.values() for one in every}))
+    lists = "".join(f"use crate::{every[-1]}::{ours.partition('<')[0]};\n" for ours, every in sets.items())
+    print(head.rstrip("\n") + "\n" + modules + "\n" + lists + uses + rest)
     exports = {"call_seal": export("call_seal", "seals(alloc, bytes, times)"), "call_open": export("call_open", "opens(alloc, bytes, times)"),
                "call_crc": export("call_crc", "sums(alloc, bytes, times)")}
     for number, form, _name, rust, _value, ours in workloads():
