@@ -98,7 +98,7 @@ ENCODER = """impl$shaped Encoder<$name> for ${simple}Encoder {
 
     ghost of_shape = { λ e. refl };
 
-    ghost surely = { λ e n h. h };
+    ghost surely = { λ e n h. $law };
 }
 
 impl$shaped HasEncoder for $name {
@@ -134,7 +134,7 @@ PART = """impl$shaped PartEncoder<$whole, $name> for ${simple}Encoder {
 
     ghost of_shape = { λ e. refl };
 
-    ghost surely = { λ e n h. h };
+    ghost surely = { λ e n h. $law };
 }
 
 """
@@ -152,21 +152,21 @@ impl<$input> HoldsData for ${simple}Decoder<$input> {
     ghost held = { λ d. ⟦<$data<$input> as HoldsData>⟧.held d.fields };
 
     ghost owned = { λ d. ⟦<$data<$input> as HoldsData>⟧.owned d.fields };
-}
 
-impl<$input> View<$input> for ${simple}Decoder<$input> {
-    ghost free_inside = { λ d. ⟦<$data<$input> as View<$input>>⟧.free_inside d.fields };
+    ghost free_inside = { λ d. ⟦<$data<$input> as HoldsData>⟧.free_inside d.fields };
 
     fn new(alloc: Global) -> Self {
-        ${simple}Decoder { fields: View::new(alloc) }
-    }
-
-    fn read(&mut self, input: &mut &$input [u8], k: usize, strict: bool) -> Result<bool, Error> {
-        self.fields.read(input, k, strict)
+        ${simple}Decoder { fields: HoldsData::new(alloc) }
     }
 
     fn column_free(&self) -> ColumnFree {
         self.fields.column_free()
+    }
+}
+
+impl<$input> View<$input> for ${simple}Decoder<$input> {
+    fn read(&mut self, input: &mut &$input [u8], k: usize, strict: bool) -> Result<bool, Error> {
+        self.fields.read(input, k, strict)
     }
 }
 
@@ -181,10 +181,10 @@ $reads_one
 }
 
 """
-# A value that borrows a text is read by its decoder.
+# How a value is read without a decoder.
 READS_ONE = """
     fn reads_one() -> bool {
-        <$data<$input> as Decoder<$name>>::reads_one()
+        $answer
     }
 
     #[inline(always)]
@@ -385,7 +385,39 @@ def still_of(item, life):
     return life.replace(item.lifetime, "'static") if item.lifetime else life
 
 
-def encoder_text(item, free, name, life, shaped, fields):
+# Types of std and of the kit that are encoded as arrays, or may be, and those whose parts have lengths or variants of
+# their own, so that room is not reserved for arrays inside them.
+AS_ARRAYS = {"Uuid", "Ipv4Addr", "Ipv6Addr", "IpAddr", "SocketAddrV4", "SocketAddrV6", "SocketAddr"}
+IN_LISTS = {
+    "Vec", "BoxedSlice", "RcSlice", "ArcSlice", "VecDeque", "LinkedList", "ArrayVec", "BinaryHeap", "BTreeSet", "HashSet",
+    "BTreeMap", "HashMap", "Option", "Result",
+}
+
+
+def may_overflow(type, own):
+    """Whether room for values of the type may be refused for the number of arrays."""
+    if type.kind == "path" and type.name in own:
+        item = own[type.name].item
+        types = [field.type for field in fields_of(item)] if item else []
+        return not item or any(may_overflow(one, inside_of(type, own)) for one in [*types, *type.parts])
+    if type.kind == "array" or type.name in AS_ARRAYS:
+        return True
+    return type.name not in IN_LISTS and any(may_overflow(part, own) for part in type.parts)
+
+
+def has_arrays(item, own):
+    """Whether room for values of the item may be refused for the number of arrays."""
+    return any(may_overflow(field.type, own) for field in fields_of(item))
+
+
+def reserving(fields, own, shape, held, call):
+    """What `Buffer` says of too many arrays, the law of it, and how room is reserved: with that call if there may be some."""
+    if any(may_overflow(field.type, own) for field in fields):
+        return {"surely": f"SurelyOverflows {shape} (⟦<{held} as Buffer>⟧.columns e.fields) n", "law": "h", "reserve": call}
+    return {"surely": "⊥", "law": "absurd h", "reserve": "self.fields.reserve(n)"}
+
+
+def encoder_text(item, own, free, name, life, shaped, fields):
     """The encoder of the item, which has the encoder of its fields."""
     still = still_of(item, life)
     held = "Held" + (still if fields.endswith(">") else "")
@@ -394,11 +426,10 @@ def encoder_text(item, free, name, life, shaped, fields):
         "simple": item.name,
         "name": name,
         "held": held,
-        "surely": f"SurelyOverflows {shape} (⟦<{held} as Buffer>⟧.columns e.fields) n",
-        "reserve": f"reserve_as::<{item.name}{still}, _>(&mut self.fields, n)",
         "shaped": shaped,
         "free": free,
     }
+    row |= reserving(fields_of(item), own, shape, held, f"reserve_as::<{item.name}{still}, _>(&mut self.fields, n)")
     alias = f"type Held{fields.removeprefix('Fields')} = StructEncoder<{fields}>;\n\n"
     return alias + Template(HOLDER + ENCODER).substitute(row)
 
@@ -412,7 +443,7 @@ def lists_of(fields, nested):
     return text[1:-1]
 
 
-def part_encoder_text(part, number, struct, life, free, lists, types, numbers):
+def part_encoder_text(part, own, number, struct, life, free, lists, types, numbers):
     """The encoder of a part of the fields of a struct, of whose types and numbers these are the nested pairs."""
     name, whole = part.name + (life if part.lifetime else ""), struct.name + life
     pairs, held, names = (f"{alias}{number}" for alias in ("Pairs", "Held", "Numbers"))
@@ -427,18 +458,56 @@ def part_encoder_text(part, number, struct, life, free, lists, types, numbers):
         "held": held + still,
         "numbers": names,
         "shape": shape,
-        "surely": f"SurelyOverflows {shape} (⟦<{held + still} as Buffer>⟧.columns e.fields) n",
-        "reserve": f"reserve_part::<{whole_still}, {names}, _>(&mut self.fields, n)",
         "shaped": life,
         "free": free,
         "lists": lists,
     }
+    row |= reserving(part.fields, own, shape, held + still, f"reserve_part::<{whole_still}, {names}, _>(&mut self.fields, n)")
     aliases = f"type {pairs}{of} = {types};\n\ntype {held}{of} = <{pairs}{of} as HasEncoder>::Encoder;\n\n"
     return aliases + f"type {names} = {numbers};\n\n" + Template(HOLDER + PART).substitute(row)
 
 
-def decoder_text(simple, name, input, decoder, reads_one, data="Data"):
-    """The decoder of the type, which holds that one. It may read one value without a decoder, as that one does."""
+# Types whose decoders read lists without a decoder, those that read one value, and those that read none.
+IN_READ_LISTS = {*INTEGERS, "f32", "f64", "bool", "String"}
+READ_ONE = {*IN_READ_LISTS, "char", *(f"NonZero{name.capitalize()}" for name in INTEGERS)}
+READ_NONE = {"BTreeSet", "HashSet", "BTreeMap", "HashMap", "BinaryHeap", "ArrayVec", "ArrayString"}
+
+
+def reads_one(type, own):
+    """Whether the decoder of the type reads one value without a decoder; `None` if only the library knows."""
+    if type.kind == "reference" or type.name in READ_NONE:
+        return False
+    if type.kind == "path" and type.name in own:
+        item = own[type.name].item
+        if not item or item.types or item.consts or item.attributes:
+            return None
+        if not is_pair(item):
+            return not any(variant.fields for variant in item.variants)
+        return each_reads_one([field.type for field in fields_of(item)], inside_of(type, own))
+    if type.kind == "array" or type.name == "Vec":
+        inner = type.parts[0]
+        one = inner.kind == "path" and inner.name not in own and inner.name in IN_READ_LISTS
+        return one or (None if inner.kind == "path" and inner.name not in own and inner.name not in ("Option", "Vec") else False)
+    if type.kind == "tuple" and type.parts or type.name in ("Option", "Result"):
+        return each_reads_one(type.parts, own)
+    return True if type.kind == "path" and type.name in READ_ONE else None
+
+
+def each_reads_one(types, own):
+    """The same of a tuple of them: it reads one value if all do."""
+    found = [reads_one(type, own) for type in types]
+    return False if False in found else None if None in found else True
+
+
+def item_reads_one(item, own):
+    """The same of a struct. A value that borrows a text is read by its decoder."""
+    return False if item.lifetime else each_reads_one([field.type for field in fields_of(item)], own)
+
+
+def decoder_text(simple, name, input, decoder, one, data="Data"):
+    """The decoder of the type, which holds that one. It may read one value without a decoder, as that one does: `one` says
+    whether that one does so."""
     row = {"simple": simple, "name": name, "input": input, "data": data}
-    one = Template(READS_ONE).substitute(row) if reads_one else ""
+    row["answer"] = "true" if one else Template("<$data<$input> as Decoder<$name>>::reads_one()").substitute(row)
+    one = "" if one is False else Template(READS_ONE).substitute(row)
     return Template(DECODER).substitute(row, decoder=decoder, reads_one=one)

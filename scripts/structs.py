@@ -94,21 +94,21 @@ impl<$input> HoldsData for $apart<$input> {
     ghost held = { λ d. ⟦<$inner as HoldsData>⟧.held d.field };
 
     ghost owned = { λ d. ⟦<$inner as HoldsData>⟧.owned d.field };
-}
 
-impl<$input> View<$input> for $apart<$input> {
-    ghost free_inside = { λ d. ⟦<$inner as View<$input>>⟧.free_inside d.field };
+    ghost free_inside = { λ d. ⟦<$inner as HoldsData>⟧.free_inside d.field };
 
     fn new(alloc: Global) -> Self {
-        $apart { field: View::new(alloc) }
-    }
-
-    fn read(&mut self, input: &mut &$input [u8], k: usize, strict: bool) -> Result<bool, Error> {
-        self.field.read(input, k, strict)
+        $apart { field: HoldsData::new(alloc) }
     }
 
     fn column_free(&self) -> ColumnFree {
         self.field.column_free()
+    }
+}
+
+impl<$input> View<$input> for $apart<$input> {
+    fn read(&mut self, input: &mut &$input [u8], k: usize, strict: bool) -> Result<bool, Error> {
+        self.field.read(input, k, strict)
     }
 }
 
@@ -268,7 +268,7 @@ def fields_text(item, own, lent, law, ghost_use=""):
     life, has_encoder = arguments(item), bounds(item, "HasEncoder")
     if closed.is_closed(item, own):
         free = closed.writes_free(fields_of(item), own, paired) if types else "⟦<<() as HasEncoder>::Encoder as Encoder<()>>⟧.writes_free"
-        encoder = closed.encoder_text(item, free, name, life, bounds(item, "Shaped"), "Fields" + life)
+        encoder = closed.encoder_text(item, own, free, name, life, bounds(item, "Shaped"), "Fields" + life)
     else:
         encoder = Template(OPEN_ENCODER).substitute(has_encoder=has_encoder, name=name, life=life)
     return lent_text(item, lent, ghost_use) + Template(IN_FIELDS).substitute(
@@ -296,7 +296,7 @@ def types_left(item, own):
 def closed_parts(item, own, name, input, parts, decoder):
     """What names the types of all that is inside, the item's own decoder, and its type."""
     text = f"/// Names the types of all that is inside `{item.name}`.\npub type {item.name}Inside{arguments(item)} = {closed.inside(item, own, parts)};\n\n"
-    return text, closed.decoder_text(item.name, name, input, decoder, not item.lifetime), f"{item.name}Decoder<{input}>"
+    return text, closed.decoder_text(item.name, name, input, decoder, closed.item_reads_one(item, own)), f"{item.name}Decoder<{input}>"
 
 
 def closed_head(item, own):
@@ -304,10 +304,10 @@ def closed_head(item, own):
     if not closed.is_closed(item, own):
         return "", set()
     words = ["◌&&◌"] if len(fields_of(item)) > 1 else []
-    words += [] if item.lifetime else ["IfSome"]
+    words += [] if closed.item_reads_one(item, own) is False else ["IfSome"]
     words += [] if all(closed.is_quoted(field.type, own) for field in fields_of(item)) else ["false"]
     operators = f"ghost use Rattle.std.specs.Prelude.{{{', '.join(words)}}};\n" if words else ""
-    return operators, {"Part", "reserve_as"}
+    return operators, {"Part"} | ({"reserve_as"} if closed.has_arrays(item, own) else set())
 
 
 def decoders(types, apart, input):
@@ -355,7 +355,8 @@ def tuple_text(item, imports, own, lent, **row):
     is_closed = closed.is_closed(item, own)
     coders = {closed.NEEDED} if is_closed else {"bitcode::coder::{ColumnFree, Decoder, HoldsData, View}"} if apart else ()
     imports = {*imports, "std::alloc::Global", *coders}
-    by_hand = [*((["SurelyOverflows"] if item.lifetime else ["ReadsValue", "SurelyOverflows"]) if is_closed else []), "columns_alike", "data_as", "field_alike", *(["pair_alike"] if len(fields) > 1 else []), "refl"]
+    stated = (["ReadsValue"] if is_closed and closed.item_reads_one(item, own) is not False else []) + (["SurelyOverflows"] if is_closed and closed.has_arrays(item, own) else [])
+    by_hand = [*stated, "columns_alike", "data_as", "field_alike", *(["pair_alike"] if len(fields) > 1 else []), "refl"]
     operators, more = closed_head(item, own)
     used |= more
     named = ""

@@ -5,7 +5,7 @@ from string import Template
 from declarations import fields_of
 from known_types import Checker, names_in, of_text, types_in
 from tokens import Refused
-from closed import NEEDED, decoder_text, encoder_text, lists_of, part_encoder_text, writes_free
+from closed import NEEDED, decoder_text, encoder_text, has_arrays, item_reads_one, lists_of, part_encoder_text, writes_free
 from structs import BODY, DATA, HEAD, IN_FIELDS, OWNED, alike, arguments, bounds, closed_head, closed_parts, declaration, decoder_of_parts
 from structs import halved, initialized, inside, is_generic, lent_text, paired, parameter, paths, places, quoted
 
@@ -44,14 +44,14 @@ def types_encoded(type, own):
     return sum(types_encoded(field.type, own) for field in fields_of(item)) + sum(types_encoded(part, own) for part in type.parts if part.kind != "lifetime") or 1
 
 
-def part_text(part, number, own, reads_one):
+def part_text(part, number, own, one):
     """What is written of a part, which has a decoder of its own."""
     input, name = part.lifetime or "'a", part.name + arguments(part)
     fields, types = part.fields, [of_text(field.type) for field in part.fields]
     alias = f"Fields{number}" + arguments(part)
     inner, apart = decoder_of_parts(part, own, input, alias)
     of_fields = f"ConvertFromDecoder<{alias}, {inner}>" if apart else f"DecoderOfFields<{input}, {alias}>"
-    apart += decoder_text(part.name, name, input, of_fields, reads_one, f"Data{number}")
+    apart += decoder_text(part.name, name, input, of_fields, one, f"Data{number}")
     made = "; ".join(f"{quoted(field.name)} = {place}" for field, place in zip(fields, places(len(fields))))
     data = Template(DATA).substitute(ghost_parts=f"λ t. {halved([f't.{field.name}' for field in fields])}", ghost_made=f"record {{ {made} }}", one_to_one="λ t. refl", parts=alias)
     return Template(BODY).substitute(
@@ -81,7 +81,7 @@ def encoders_text(struct, parts, own):
         numbers = [f"Nth<{at}>" for at in range(first, first + len(part.fields))]
         types = [of_text(field.type) for field in part.fields]
         first += len(part.fields)
-        texts.append(part_encoder_text(part, number, struct, life, writes_free(part.fields, own, paired), lists_of(part.fields, paired), paired(types), paired(numbers)))
+        texts.append(part_encoder_text(part, own, number, struct, life, writes_free(part.fields, own, paired), lists_of(part.fields, paired), paired(types), paired(numbers)))
     whole, name = [part.name + arguments(part) for part in parts], struct.name + life
     each = [f"⟦<{part.name}Encoder as PartEncoder<{name}, {of}>>⟧.writes_free" for part, of in zip(parts, whole)]
     in_fields = Template(IN_FIELDS).substitute(
@@ -90,7 +90,7 @@ def encoders_text(struct, parts, own):
     )
     lent = lent_text(struct, [(f"λ t. t.{field.name}", f"&self.{field.name}") for field in struct.fields])
     free = paired(each).replace(", ⟦", " && ⟦").replace(", (", " && (")
-    return lent + "".join(texts) + in_fields + encoder_text(struct, free, name, life, life, "Fields")
+    return lent + "".join(texts) + in_fields + encoder_text(struct, own, free, name, life, life, "Fields")
 
 
 def wide_text(struct, own, told):
@@ -108,7 +108,8 @@ def wide_text(struct, own, told):
     parts, input, name = parts_of(struct), struct.lifetime or "'a", struct.name + arguments(struct)
     if sum(types_encoded(field.type, own) for field in struct.fields) > MOST_ENCODED:
         raise Refused(struct.line, f"the fields name more than {MOST_ENCODED} types, the borrow checker's limit for an encoder: group consecutive fields in structs, until it has 16 fields or fewer")
-    texts = [part_text(part, number, own, not struct.lifetime) for number, part in enumerate(parts)]
+    one = item_reads_one(struct, own)
+    texts = [part_text(part, number, own, False if one is False else item_reads_one(part, own)) for number, part in enumerate(parts)]
     alias = "Parts" + arguments(struct)
     whole = [part.name + arguments(part) for part in parts]
     found = [(field, f"{place}.{field.name}") for part, place in zip(parts, paths(len(parts))) for field in part.fields]
@@ -118,7 +119,8 @@ def wide_text(struct, own, told):
     used = {"ConvertFrom", "DecoderOfFields", "Error", "HasDecoder", "HasEncoder", "HasField", "InFields", "Nth", "Shaped", "StructEncoder"}
     used |= set() if struct.lifetime else {"DecodeOwned"}
     used |= {"ConvertFromDecoder"} if any("ConvertFromDecoder<" in text for text in texts) else set()
-    used |= {"Part", "PartEncoder", "TupleEncoder", "reserve_as", "reserve_part"}
+    stated = ["SurelyOverflows"] if has_arrays(struct, own) else []
+    used |= {"Part", "PartEncoder", "TupleEncoder"} | ({"reserve_as", "reserve_part"} if stated else set())
     used |= {"TupleDecoder"} if any("TupleDecoder<" in text for text in texts) else set()
     imports = {*checker.imports, "std::alloc::Global", NEEDED}
     uses = sorted([f"use bitcode::{{{', '.join(sorted(used))}}};", *(f"use {path};" for path in imports)])
@@ -139,6 +141,6 @@ def wide_text(struct, own, told):
     head = Template(HEAD).substitute(
         about=f"`{struct.name}` corresponds to pairs of parts of its fields. What is below its declaration was written by `scripts/new_type`.",
         operators=closed_head(struct, own)[0],
-        by_hand=f"ghost use Rattle.bitcode.specs.ByHand.{{{', '.join([*([] if struct.lifetime else ['ReadsValue']), 'SurelyOverflows', 'columns_alike', 'data_as', 'field_alike', 'lists_both', 'pair_alike', 'refl'])}}};\n", uses="\n".join(uses) + "\n",
+        by_hand=f"ghost use Rattle.bitcode.specs.ByHand.{{{', '.join([*([] if one is False else ['ReadsValue']), *stated, 'columns_alike', 'data_as', 'field_alike', 'lists_both', 'pair_alike', 'refl'])}}};\n", uses="\n".join(uses) + "\n",
     )
     return head + declaration(struct) + "\n" + "\n".join(texts) + body, checker.crates

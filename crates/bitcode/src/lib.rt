@@ -21,7 +21,7 @@
 #![tactic(auto)]
 
 pub use bitcode_coder::bool::{BoolDecoder, BoolEncoder};
-pub use bitcode_coder::coder::{Decoder, Encoder, MAX_VECTORED_CHUNK, View};
+pub use bitcode_coder::coder::{Decoder, Encoder, HoldsData, MAX_VECTORED_CHUNK, View};
 pub use bitcode_coder::length::{Len, LengthDecoder, LengthEncoder};
 pub use bitcode_coder::str::{ArrayStringDecoder, StrDecoder, StrEncoder};
 pub use bitcode_columns::byte::Byte;

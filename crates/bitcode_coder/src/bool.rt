@@ -133,9 +133,7 @@ impl<'a> HoldsData for BoolDecoder<'a> {
     ghost held = { λ d. map truth (cow_rest d.values) };
 
     ghost owned = { λ d. cow_owned d.values };
-}
 
-impl<'a> View<'a> for BoolDecoder<'a> {
     ghost free_inside = { λ d. 0 };
 
     fn new(alloc: Global) -> Self {
@@ -145,6 +143,12 @@ impl<'a> View<'a> for BoolDecoder<'a> {
         }
     }
 
+    fn column_free(&self) -> ColumnFree {
+        ColumnFree::entries()
+    }
+}
+
+impl<'a> View<'a> for BoolDecoder<'a> {
     fn read(&mut self, input: &mut &'a [u8], k: usize, strict: bool) -> Result<bool, Error>
         ensures read { OnOk result
             (Reads (Spells bool_shape) k input.old.now (map truth (cow_rest self.new.values))
@@ -160,10 +164,6 @@ impl<'a> View<'a> for BoolDecoder<'a> {
         ensures exact { IfErr result (λ e. IsFirstFault bool_shape e.reason k input.old.now) }
     {
         read_bools(self.alloc, input, k, &mut self.values, strict)
-    }
-
-    fn column_free(&self) -> ColumnFree {
-        ColumnFree::entries()
     }
 }
 

@@ -256,7 +256,8 @@ pub trait Encoder<T: Shaped>: Buffer {
 
 /// The data of a decoder.
 ///
-/// It has no functions: the contracts of `View` and `Decoder` are stated in terms of these data.
+/// The contracts of [`View`] and [`Decoder`] are stated in terms of these data. Functions that need no lifetime are
+/// here, since the checker takes several times as long for a call through a trait with a lifetime.
 pub trait HoldsData {
     ghost shape: { Shape };
 
@@ -265,6 +266,19 @@ pub trait HoldsData {
 
     // how many entries it has memory of its own for
     ghost owned: { Self → ℕ };
+
+    // how many elements without columns are inside the data that were read
+    ghost free_inside: { Self → ℕ };
+
+    /// Creates an empty decoder without allocating.
+    fn new(alloc: Global) -> Self
+        ensures held { Self.held result ≡ [] }
+        ensures owned { Self.owned result ≡ 0 };
+
+    /// Tells how many elements without columns are inside the data that were read. It makes no value.
+    fn column_free(&self) -> ColumnFree
+        ensures has_entry { result.has_entry ≡ has_entry shape }
+        ensures inside { result.inside ≡ saturated (free_inside self.now) };
 }
 
 /// Combines the answers of two parts that were read one after the other.
@@ -278,14 +292,6 @@ pub fn both(first: bool, second: bool) -> bool
 ///
 /// After an error, only another read may follow.
 pub trait View<'a>: HoldsData {
-    // how many elements without columns are inside the data that were read
-    ghost free_inside: { Self → ℕ };
-
-    /// Creates an empty decoder without allocating.
-    fn new(alloc: Global) -> Self
-        ensures held { Self.held result ≡ [] }
-        ensures owned { Self.owned result ≡ 0 };
-
     /// Reads `k` data from the front of the input and validates them completely. If `strict`, it returns whether the
     /// bytes of each column are those that `encode` writes. Otherwise the returned bool has no meaning.
     ///
@@ -294,7 +300,7 @@ pub trait View<'a>: HoldsData {
         ensures read { OnOk result
             (Reads (Spells Self.shape) k input.old.now (Self.held self.new) input.new.now) }
         ensures counted { OnOk result
-            (saturated (free_inside self.new) ≡ saturated (free_count Self.shape
+            (saturated (Self.free_inside self.new) ≡ saturated (free_count Self.shape
             (Self.held self.new))) }
         ensures judged { IsTrue strict → IfOk result
             (λ written. JudgesData Self.shape (Self.held self.new) written input.old.now
@@ -303,11 +309,6 @@ pub trait View<'a>: HoldsData {
         ensures exact { IfErr result (λ e. IsFirstFault Self.shape e.reason k input.old.now) }
         ensures rest { OnErr result (IsEndOf input.old.now input.new.now) };
 
-    /// Tells how many elements without columns are inside the data that were read. It makes no value.
-    fn column_free(&self) -> ColumnFree
-        ensures has_entry { result.has_entry ≡ has_entry Self.shape }
-        ensures inside { result.inside ≡ saturated (free_inside self.now) };
-
     /// Reads `k` data from the front of the input and validates them completely.
     ///
     /// The error is the first fault. It is `out of memory` only for a column that allocates.
@@ -315,7 +316,7 @@ pub trait View<'a>: HoldsData {
         ensures read { OnOk result
             (Reads (Spells Self.shape) k input.old.now (Self.held self.new) input.new.now) }
         ensures counted { OnOk result
-            (saturated (free_inside self.new) ≡ saturated (free_count Self.shape
+            (saturated (Self.free_inside self.new) ≡ saturated (free_count Self.shape
             (Self.held self.new))) }
         ensures refused { IfErr result (λ e. IsReadingRefusal Self.shape e.reason k input.old.now) }
         ensures exact { IfErr result (λ e. IsFirstFault Self.shape e.reason k input.old.now) }
@@ -331,7 +332,7 @@ pub trait View<'a>: HoldsData {
         ensures read { OnOk result
             (Reads (Spells Self.shape) k input.old.now (Self.held self.new) input.new.now) }
         ensures counted { OnOk result
-            (saturated (free_inside self.new) ≡ saturated (free_count Self.shape
+            (saturated (Self.free_inside self.new) ≡ saturated (free_count Self.shape
             (Self.held self.new))) }
         ensures strict { IfOk result
             (λ written. IsTrue written ↔ Reads (StrictlySpells Self.shape) k input.old.now

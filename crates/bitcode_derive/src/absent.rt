@@ -78,25 +78,25 @@ impl HoldsData for AbsentDecoder {
     ghost held = { λ d. replicate d.left unit };
 
     ghost owned = { λ d. 0 };
-}
 
-impl<'a> View<'a> for AbsentDecoder {
     ghost free_inside = { λ d. 0 };
 
     fn new(_alloc: Global) -> Self {
         AbsentDecoder { left: 0 }
     }
 
+    fn column_free(&self) -> ColumnFree {
+        ColumnFree::entries()
+    }
+}
+
+impl<'a> View<'a> for AbsentDecoder {
     fn read(&mut self, _input: &mut &'a [u8], k: usize, _strict: bool) -> Result<bool, Error> {
         self.left = k;
         if k > 0 {
             return err(Reason::InvalidEnumVariant);
         }
         Ok(true)
-    }
-
-    fn column_free(&self) -> ColumnFree {
-        ColumnFree::entries()
     }
 }
 

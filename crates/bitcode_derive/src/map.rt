@@ -119,9 +119,7 @@ impl<'a, K: HoldsData, V: HoldsData> HoldsData for MapDecoder<'a, K, V> {
     ghost held = { λ d. ⟦<VecDecoder<'a, TupleDecoder<K, V>> as HoldsData>⟧.held d.entries };
 
     ghost owned = { λ d. ⟦<VecDecoder<'a, TupleDecoder<K, V>> as HoldsData>⟧.owned d.entries };
-}
 
-impl<'a, K: View<'a>, V: View<'a>> View<'a> for MapDecoder<'a, K, V> {
     ghost free_inside = { λ d. count_if_free (has_entry K.shape) (lengths_sum d.entries.lengths)
         + (K.free_inside d.entries.elements.first + V.free_inside d.entries.elements.second) };
 
@@ -131,10 +129,6 @@ impl<'a, K: View<'a>, V: View<'a>> View<'a> for MapDecoder<'a, K, V> {
         }
     }
 
-    fn read(&mut self, input: &mut &'a [u8], k: usize, strict: bool) -> Result<bool, Error> {
-        self.entries.read(input, k, strict)
-    }
-
     fn column_free(&self) -> ColumnFree {
         let pairs = self.entries.elements();
         let keys = pairs.first().column_free().in_lists(self.entries.total());
@@ -142,6 +136,12 @@ impl<'a, K: View<'a>, V: View<'a>> View<'a> for MapDecoder<'a, K, V> {
             has_entry: true,
             inside: keys.saturating_add(pairs.second().column_free().inside),
         }
+    }
+}
+
+impl<'a, K: View<'a>, V: View<'a>> View<'a> for MapDecoder<'a, K, V> {
+    fn read(&mut self, input: &mut &'a [u8], k: usize, strict: bool) -> Result<bool, Error> {
+        self.entries.read(input, k, strict)
     }
 }
 

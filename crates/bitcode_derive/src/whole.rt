@@ -12,7 +12,7 @@ ghost use Rattle.bitcode_derive.specs.Whole.{IsBoundedByBytes, NamesWholeFault};
 ghost use Rattle.bitcode_derive.specs.Within.{IsDecodingWithin, IsRefusalWithin, NamesFaultWithin};
 
 use crate::derive::{HasDecoder, HasEncoder};
-use bitcode_coder::coder::{Buffer, Decoder, Encoder, View};
+use bitcode_coder::coder::{Buffer, Decoder, Encoder, HoldsData, View};
 use bitcode_coder::one::write_one;
 use bitcode_memory::consume::expect_eof;
 use bitcode_memory::error::{Error, Reason};

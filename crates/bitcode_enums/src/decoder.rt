@@ -47,10 +47,7 @@ impl<'a, const N: usize, T: EnumOf<N>, D: VariantPayloads<'a, At<0>, At<N>, T>> 
     ghost held = { λ d. choices_of (variants_left d.variants) (D.held.lists d.payloads) };
 
     ghost owned = { λ d. variants_owned d.variants + D.held.owned d.payloads };
-}
 
-impl<'a, const N: usize, T: EnumOf<N>, D: VariantPayloads<'a, At<0>, At<N>, T>> View<'a>
-    for EnumDecoder<'a, N, T, D> {
     ghost free_inside = { λ d. d.free };
 
     fn new(alloc: Global) -> Self {
@@ -62,6 +59,16 @@ impl<'a, const N: usize, T: EnumOf<N>, D: VariantPayloads<'a, At<0>, At<N>, T>> 
         }
     }
 
+    fn column_free(&self) -> ColumnFree {
+        ColumnFree {
+            has_entry: true,
+            inside: in_range(self.free),
+        }
+    }
+}
+
+impl<'a, const N: usize, T: EnumOf<N>, D: VariantPayloads<'a, At<0>, At<N>, T>> View<'a>
+    for EnumDecoder<'a, N, T, D> {
     fn read(&mut self, input: &mut &'a [u8], k: usize, strict: bool) -> Result<bool, Error> {
         self.payloads.sized();
         let mut written = self.variants.read(input, k, strict)?;
@@ -75,13 +82,6 @@ impl<'a, const N: usize, T: EnumOf<N>, D: VariantPayloads<'a, At<0>, At<N>, T>> 
         }
         self.free = free;
         Ok(written)
-    }
-
-    fn column_free(&self) -> ColumnFree {
-        ColumnFree {
-            has_entry: true,
-            inside: in_range(self.free),
-        }
     }
 }
 

@@ -140,9 +140,7 @@ impl<'a> HoldsData for F32Decoder<'a> {
     ghost held = { λ d. data_of_bits binary32 (split_rest d.bits) };
 
     ghost owned = { λ d. 0 };
-}
 
-impl<'a> View<'a> for F32Decoder<'a> {
     ghost free_inside = { λ d. 0 };
 
     fn new(_alloc: Global) -> Self {
@@ -151,6 +149,12 @@ impl<'a> View<'a> for F32Decoder<'a> {
         }
     }
 
+    fn column_free(&self) -> ColumnFree {
+        ColumnFree::entries()
+    }
+}
+
+impl<'a> View<'a> for F32Decoder<'a> {
     fn read(&mut self, input: &mut &'a [u8], k: usize, strict: bool) -> Result<bool, Error>
         ensures read { OnOk result
             (Reads (Spells (float_shape binary32)) k input.old.now
@@ -169,10 +173,6 @@ impl<'a> View<'a> for F32Decoder<'a> {
             (λ e. IsFirstFault (float_shape binary32) e.reason k input.old.now) }
     {
         read_f32s(input, k, &mut self.bits, strict)
-    }
-
-    fn column_free(&self) -> ColumnFree {
-        ColumnFree::entries()
     }
 }
 

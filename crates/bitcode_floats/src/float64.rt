@@ -216,9 +216,7 @@ impl<'a> HoldsData for F64Decoder<'a> {
     ghost held = { λ d. data_of_bits binary64 (long_bits (cow_rest d.values)) };
 
     ghost owned = { λ d. cow_owned d.values };
-}
 
-impl<'a> View<'a> for F64Decoder<'a> {
     ghost free_inside = { λ d. 0 };
 
     fn new(alloc: Global) -> Self {
@@ -228,6 +226,12 @@ impl<'a> View<'a> for F64Decoder<'a> {
         }
     }
 
+    fn column_free(&self) -> ColumnFree {
+        ColumnFree::entries()
+    }
+}
+
+impl<'a> View<'a> for F64Decoder<'a> {
     fn read(&mut self, input: &mut &'a [u8], k: usize, strict: bool) -> Result<bool, Error>
         ensures read { OnOk result
             (Reads (Spells (float_shape binary64)) k input.old.now
@@ -251,10 +255,6 @@ impl<'a> View<'a> for F64Decoder<'a> {
         }
         let canonical = are_canonical(self.values.as_slice());
         Ok(both(canonical, written))
-    }
-
-    fn column_free(&self) -> ColumnFree {
-        ColumnFree::entries()
     }
 }
 

@@ -73,9 +73,7 @@ impl<'a, C: Checked<I>, I: ColumnInt> HoldsData for CheckedIntDecoder<'a, C, I> 
         (numbers_of I.width I.signed I.une_bytes (cow_rest d.values)) };
 
     ghost owned = { λ d. cow_owned d.values };
-}
 
-impl<'a, C: Checked<I>, I: ColumnInt> View<'a> for CheckedIntDecoder<'a, C, I> {
     ghost free_inside = { λ d. 0 };
 
     fn new(alloc: Global) -> Self {
@@ -86,16 +84,18 @@ impl<'a, C: Checked<I>, I: ColumnInt> View<'a> for CheckedIntDecoder<'a, C, I> {
         }
     }
 
+    fn column_free(&self) -> ColumnFree {
+        ColumnFree::entries()
+    }
+}
+
+impl<'a, C: Checked<I>, I: ColumnInt> View<'a> for CheckedIntDecoder<'a, C, I> {
     fn read(&mut self, input: &mut &'a [u8], k: usize, strict: bool) -> Result<bool, Error> {
         let written = I::unpack(self.alloc, input, k, &mut self.values, strict)?;
         if !are_allowed::<C, I>(self.values.as_slice()) {
             return err(Reason::InvalidBitPattern);
         }
         Ok(written)
-    }
-
-    fn column_free(&self) -> ColumnFree {
-        ColumnFree::entries()
     }
 }
 

@@ -319,9 +319,7 @@ impl<'a, T: ColumnInt> HoldsData for IntDecoder<'a, T> {
     ghost held = { λ d. bytes_data T.width T.signed T.une_bytes (cow_rest d.values) };
 
     ghost owned = { λ d. cow_owned d.values };
-}
 
-impl<'a, T: ColumnInt> View<'a> for IntDecoder<'a, T> {
     ghost free_inside = { λ d. 0 };
 
     fn new(alloc: Global) -> Self {
@@ -331,6 +329,12 @@ impl<'a, T: ColumnInt> View<'a> for IntDecoder<'a, T> {
         }
     }
 
+    fn column_free(&self) -> ColumnFree {
+        ColumnFree::entries()
+    }
+}
+
+impl<'a, T: ColumnInt> View<'a> for IntDecoder<'a, T> {
     // Inlined, with all that it calls to read a column, so that nothing is left of the cases that one integer lacks.
     #[inline(always)]
     fn read(&mut self, input: &mut &'a [u8], k: usize, strict: bool) -> Result<bool, Error>
@@ -351,10 +355,6 @@ impl<'a, T: ColumnInt> View<'a> for IntDecoder<'a, T> {
             (λ e. IsFirstFault (int_shape T.width T.signed) e.reason k input.old.now) }
     {
         T::unpack(self.alloc, input, k, &mut self.values, strict)
-    }
-
-    fn column_free(&self) -> ColumnFree {
-        ColumnFree::entries()
     }
 }
 

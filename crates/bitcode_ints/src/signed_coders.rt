@@ -110,23 +110,23 @@ impl<'a> HoldsData for I8Decoder<'a> {
     ghost held = { λ d. ⟦<IntDecoder<'a, i8> as HoldsData>⟧.held d.column };
 
     ghost owned = { λ d. ⟦<IntDecoder<'a, i8> as HoldsData>⟧.owned d.column };
-}
 
-impl<'a> View<'a> for I8Decoder<'a> {
     ghost free_inside = { λ d. 0 };
 
     fn new(alloc: Global) -> Self {
         I8Decoder {
-            column: View::new(alloc),
+            column: HoldsData::new(alloc),
         }
-    }
-
-    fn read(&mut self, input: &mut &'a [u8], k: usize, strict: bool) -> Result<bool, Error> {
-        self.column.read(input, k, strict)
     }
 
     fn column_free(&self) -> ColumnFree {
         ColumnFree::entries()
+    }
+}
+
+impl<'a> View<'a> for I8Decoder<'a> {
+    fn read(&mut self, input: &mut &'a [u8], k: usize, strict: bool) -> Result<bool, Error> {
+        self.column.read(input, k, strict)
     }
 }
 
@@ -266,23 +266,23 @@ impl<'a> HoldsData for I16Decoder<'a> {
     ghost held = { λ d. ⟦<IntDecoder<'a, i16> as HoldsData>⟧.held d.column };
 
     ghost owned = { λ d. ⟦<IntDecoder<'a, i16> as HoldsData>⟧.owned d.column };
-}
 
-impl<'a> View<'a> for I16Decoder<'a> {
     ghost free_inside = { λ d. 0 };
 
     fn new(alloc: Global) -> Self {
         I16Decoder {
-            column: View::new(alloc),
+            column: HoldsData::new(alloc),
         }
-    }
-
-    fn read(&mut self, input: &mut &'a [u8], k: usize, strict: bool) -> Result<bool, Error> {
-        self.column.read(input, k, strict)
     }
 
     fn column_free(&self) -> ColumnFree {
         ColumnFree::entries()
+    }
+}
+
+impl<'a> View<'a> for I16Decoder<'a> {
+    fn read(&mut self, input: &mut &'a [u8], k: usize, strict: bool) -> Result<bool, Error> {
+        self.column.read(input, k, strict)
     }
 }
 
@@ -422,23 +422,23 @@ impl<'a> HoldsData for I32Decoder<'a> {
     ghost held = { λ d. ⟦<IntDecoder<'a, i32> as HoldsData>⟧.held d.column };
 
     ghost owned = { λ d. ⟦<IntDecoder<'a, i32> as HoldsData>⟧.owned d.column };
-}
 
-impl<'a> View<'a> for I32Decoder<'a> {
     ghost free_inside = { λ d. 0 };
 
     fn new(alloc: Global) -> Self {
         I32Decoder {
-            column: View::new(alloc),
+            column: HoldsData::new(alloc),
         }
-    }
-
-    fn read(&mut self, input: &mut &'a [u8], k: usize, strict: bool) -> Result<bool, Error> {
-        self.column.read(input, k, strict)
     }
 
     fn column_free(&self) -> ColumnFree {
         ColumnFree::entries()
+    }
+}
+
+impl<'a> View<'a> for I32Decoder<'a> {
+    fn read(&mut self, input: &mut &'a [u8], k: usize, strict: bool) -> Result<bool, Error> {
+        self.column.read(input, k, strict)
     }
 }
 
@@ -578,23 +578,23 @@ impl<'a> HoldsData for I64Decoder<'a> {
     ghost held = { λ d. ⟦<IntDecoder<'a, i64> as HoldsData>⟧.held d.column };
 
     ghost owned = { λ d. ⟦<IntDecoder<'a, i64> as HoldsData>⟧.owned d.column };
-}
 
-impl<'a> View<'a> for I64Decoder<'a> {
     ghost free_inside = { λ d. 0 };
 
     fn new(alloc: Global) -> Self {
         I64Decoder {
-            column: View::new(alloc),
+            column: HoldsData::new(alloc),
         }
-    }
-
-    fn read(&mut self, input: &mut &'a [u8], k: usize, strict: bool) -> Result<bool, Error> {
-        self.column.read(input, k, strict)
     }
 
     fn column_free(&self) -> ColumnFree {
         ColumnFree::entries()
+    }
+}
+
+impl<'a> View<'a> for I64Decoder<'a> {
+    fn read(&mut self, input: &mut &'a [u8], k: usize, strict: bool) -> Result<bool, Error> {
+        self.column.read(input, k, strict)
     }
 }
 
@@ -734,23 +734,23 @@ impl<'a> HoldsData for I128Decoder<'a> {
     ghost held = { λ d. ⟦<IntDecoder<'a, i128> as HoldsData>⟧.held d.column };
 
     ghost owned = { λ d. ⟦<IntDecoder<'a, i128> as HoldsData>⟧.owned d.column };
-}
 
-impl<'a> View<'a> for I128Decoder<'a> {
     ghost free_inside = { λ d. 0 };
 
     fn new(alloc: Global) -> Self {
         I128Decoder {
-            column: View::new(alloc),
+            column: HoldsData::new(alloc),
         }
-    }
-
-    fn read(&mut self, input: &mut &'a [u8], k: usize, strict: bool) -> Result<bool, Error> {
-        self.column.read(input, k, strict)
     }
 
     fn column_free(&self) -> ColumnFree {
         ColumnFree::entries()
+    }
+}
+
+impl<'a> View<'a> for I128Decoder<'a> {
+    fn read(&mut self, input: &mut &'a [u8], k: usize, strict: bool) -> Result<bool, Error> {
+        self.column.read(input, k, strict)
     }
 }
 
@@ -890,23 +890,23 @@ impl<'a> HoldsData for IsizeDecoder<'a> {
     ghost held = { λ d. ⟦<IntDecoder<'a, isize> as HoldsData>⟧.held d.column };
 
     ghost owned = { λ d. ⟦<IntDecoder<'a, isize> as HoldsData>⟧.owned d.column };
-}
 
-impl<'a> View<'a> for IsizeDecoder<'a> {
     ghost free_inside = { λ d. 0 };
 
     fn new(alloc: Global) -> Self {
         IsizeDecoder {
-            column: View::new(alloc),
+            column: HoldsData::new(alloc),
         }
-    }
-
-    fn read(&mut self, input: &mut &'a [u8], k: usize, strict: bool) -> Result<bool, Error> {
-        self.column.read(input, k, strict)
     }
 
     fn column_free(&self) -> ColumnFree {
         ColumnFree::entries()
+    }
+}
+
+impl<'a> View<'a> for IsizeDecoder<'a> {
+    fn read(&mut self, input: &mut &'a [u8], k: usize, strict: bool) -> Result<bool, Error> {
+        self.column.read(input, k, strict)
     }
 }
 

@@ -110,23 +110,23 @@ impl<'a> HoldsData for U8Decoder<'a> {
     ghost held = { λ d. ⟦<IntDecoder<'a, u8> as HoldsData>⟧.held d.column };
 
     ghost owned = { λ d. ⟦<IntDecoder<'a, u8> as HoldsData>⟧.owned d.column };
-}
 
-impl<'a> View<'a> for U8Decoder<'a> {
     ghost free_inside = { λ d. 0 };
 
     fn new(alloc: Global) -> Self {
         U8Decoder {
-            column: View::new(alloc),
+            column: HoldsData::new(alloc),
         }
-    }
-
-    fn read(&mut self, input: &mut &'a [u8], k: usize, strict: bool) -> Result<bool, Error> {
-        self.column.read(input, k, strict)
     }
 
     fn column_free(&self) -> ColumnFree {
         ColumnFree::entries()
+    }
+}
+
+impl<'a> View<'a> for U8Decoder<'a> {
+    fn read(&mut self, input: &mut &'a [u8], k: usize, strict: bool) -> Result<bool, Error> {
+        self.column.read(input, k, strict)
     }
 }
 
@@ -266,23 +266,23 @@ impl<'a> HoldsData for U16Decoder<'a> {
     ghost held = { λ d. ⟦<IntDecoder<'a, u16> as HoldsData>⟧.held d.column };
 
     ghost owned = { λ d. ⟦<IntDecoder<'a, u16> as HoldsData>⟧.owned d.column };
-}
 
-impl<'a> View<'a> for U16Decoder<'a> {
     ghost free_inside = { λ d. 0 };
 
     fn new(alloc: Global) -> Self {
         U16Decoder {
-            column: View::new(alloc),
+            column: HoldsData::new(alloc),
         }
-    }
-
-    fn read(&mut self, input: &mut &'a [u8], k: usize, strict: bool) -> Result<bool, Error> {
-        self.column.read(input, k, strict)
     }
 
     fn column_free(&self) -> ColumnFree {
         ColumnFree::entries()
+    }
+}
+
+impl<'a> View<'a> for U16Decoder<'a> {
+    fn read(&mut self, input: &mut &'a [u8], k: usize, strict: bool) -> Result<bool, Error> {
+        self.column.read(input, k, strict)
     }
 }
 
@@ -422,23 +422,23 @@ impl<'a> HoldsData for U32Decoder<'a> {
     ghost held = { λ d. ⟦<IntDecoder<'a, u32> as HoldsData>⟧.held d.column };
 
     ghost owned = { λ d. ⟦<IntDecoder<'a, u32> as HoldsData>⟧.owned d.column };
-}
 
-impl<'a> View<'a> for U32Decoder<'a> {
     ghost free_inside = { λ d. 0 };
 
     fn new(alloc: Global) -> Self {
         U32Decoder {
-            column: View::new(alloc),
+            column: HoldsData::new(alloc),
         }
-    }
-
-    fn read(&mut self, input: &mut &'a [u8], k: usize, strict: bool) -> Result<bool, Error> {
-        self.column.read(input, k, strict)
     }
 
     fn column_free(&self) -> ColumnFree {
         ColumnFree::entries()
+    }
+}
+
+impl<'a> View<'a> for U32Decoder<'a> {
+    fn read(&mut self, input: &mut &'a [u8], k: usize, strict: bool) -> Result<bool, Error> {
+        self.column.read(input, k, strict)
     }
 }
 
@@ -578,23 +578,23 @@ impl<'a> HoldsData for U64Decoder<'a> {
     ghost held = { λ d. ⟦<IntDecoder<'a, u64> as HoldsData>⟧.held d.column };
 
     ghost owned = { λ d. ⟦<IntDecoder<'a, u64> as HoldsData>⟧.owned d.column };
-}
 
-impl<'a> View<'a> for U64Decoder<'a> {
     ghost free_inside = { λ d. 0 };
 
     fn new(alloc: Global) -> Self {
         U64Decoder {
-            column: View::new(alloc),
+            column: HoldsData::new(alloc),
         }
-    }
-
-    fn read(&mut self, input: &mut &'a [u8], k: usize, strict: bool) -> Result<bool, Error> {
-        self.column.read(input, k, strict)
     }
 
     fn column_free(&self) -> ColumnFree {
         ColumnFree::entries()
+    }
+}
+
+impl<'a> View<'a> for U64Decoder<'a> {
+    fn read(&mut self, input: &mut &'a [u8], k: usize, strict: bool) -> Result<bool, Error> {
+        self.column.read(input, k, strict)
     }
 }
 
@@ -734,23 +734,23 @@ impl<'a> HoldsData for U128Decoder<'a> {
     ghost held = { λ d. ⟦<IntDecoder<'a, u128> as HoldsData>⟧.held d.column };
 
     ghost owned = { λ d. ⟦<IntDecoder<'a, u128> as HoldsData>⟧.owned d.column };
-}
 
-impl<'a> View<'a> for U128Decoder<'a> {
     ghost free_inside = { λ d. 0 };
 
     fn new(alloc: Global) -> Self {
         U128Decoder {
-            column: View::new(alloc),
+            column: HoldsData::new(alloc),
         }
-    }
-
-    fn read(&mut self, input: &mut &'a [u8], k: usize, strict: bool) -> Result<bool, Error> {
-        self.column.read(input, k, strict)
     }
 
     fn column_free(&self) -> ColumnFree {
         ColumnFree::entries()
+    }
+}
+
+impl<'a> View<'a> for U128Decoder<'a> {
+    fn read(&mut self, input: &mut &'a [u8], k: usize, strict: bool) -> Result<bool, Error> {
+        self.column.read(input, k, strict)
     }
 }
 
@@ -890,23 +890,23 @@ impl<'a> HoldsData for UsizeDecoder<'a> {
     ghost held = { λ d. ⟦<IntDecoder<'a, usize> as HoldsData>⟧.held d.column };
 
     ghost owned = { λ d. ⟦<IntDecoder<'a, usize> as HoldsData>⟧.owned d.column };
-}
 
-impl<'a> View<'a> for UsizeDecoder<'a> {
     ghost free_inside = { λ d. 0 };
 
     fn new(alloc: Global) -> Self {
         UsizeDecoder {
-            column: View::new(alloc),
+            column: HoldsData::new(alloc),
         }
-    }
-
-    fn read(&mut self, input: &mut &'a [u8], k: usize, strict: bool) -> Result<bool, Error> {
-        self.column.read(input, k, strict)
     }
 
     fn column_free(&self) -> ColumnFree {
         ColumnFree::entries()
+    }
+}
+
+impl<'a> View<'a> for UsizeDecoder<'a> {
+    fn read(&mut self, input: &mut &'a [u8], k: usize, strict: bool) -> Result<bool, Error> {
+        self.column.read(input, k, strict)
     }
 }
 

@@ -1,16 +1,12 @@
 //! `Account` corresponds to pairs of parts of its fields. What is below its declaration was written by
 //! `scripts/new_type`.
 ghost use Rattle.std.specs.Prelude.{◌&&◌};
-ghost use Rattle.bitcode.specs.ByHand.{SurelyOverflows, columns_alike, data_as, field_alike, lists_both, pair_alike};
-ghost use Rattle.bitcode.specs.ByHand.{refl};
+ghost use Rattle.bitcode.specs.ByHand.{columns_alike, data_as, field_alike, lists_both, pair_alike, refl};
 
 use crate::home::Home;
 use crate::trophy::Trophy;
 use bitcode::coder::{Buffer, ColumnFree, Decoder, Encoder, HoldsData, View};
-use bitcode::own::{
-    DecoderOfFields, HasField, InFields, Nth, Part, PartEncoder, StructEncoder, reserve_as,
-    reserve_part,
-};
+use bitcode::own::{DecoderOfFields, HasField, InFields, Nth, Part, PartEncoder, StructEncoder};
 use bitcode::{ConvertFrom, Error, HasDecoder, HasEncoder, Shaped, TupleEncoder};
 use std::alloc::Global;
 
@@ -93,23 +89,23 @@ impl<'a> HoldsData for AccountPart0Decoder<'a> {
     ghost held = { λ d. ⟦<Data0<'a> as HoldsData>⟧.held d.fields };
 
     ghost owned = { λ d. ⟦<Data0<'a> as HoldsData>⟧.owned d.fields };
-}
 
-impl<'a> View<'a> for AccountPart0Decoder<'a> {
-    ghost free_inside = { λ d. ⟦<Data0<'a> as View<'a>>⟧.free_inside d.fields };
+    ghost free_inside = { λ d. ⟦<Data0<'a> as HoldsData>⟧.free_inside d.fields };
 
     fn new(alloc: Global) -> Self {
         AccountPart0Decoder {
-            fields: View::new(alloc),
+            fields: HoldsData::new(alloc),
         }
-    }
-
-    fn read(&mut self, input: &mut &'a [u8], k: usize, strict: bool) -> Result<bool, Error> {
-        self.fields.read(input, k, strict)
     }
 
     fn column_free(&self) -> ColumnFree {
         self.fields.column_free()
+    }
+}
+
+impl<'a> View<'a> for AccountPart0Decoder<'a> {
+    fn read(&mut self, input: &mut &'a [u8], k: usize, strict: bool) -> Result<bool, Error> {
+        self.fields.read(input, k, strict)
     }
 }
 
@@ -188,23 +184,23 @@ impl<'a> HoldsData for AccountPart1Decoder<'a> {
     ghost held = { λ d. ⟦<Data1<'a> as HoldsData>⟧.held d.fields };
 
     ghost owned = { λ d. ⟦<Data1<'a> as HoldsData>⟧.owned d.fields };
-}
 
-impl<'a> View<'a> for AccountPart1Decoder<'a> {
-    ghost free_inside = { λ d. ⟦<Data1<'a> as View<'a>>⟧.free_inside d.fields };
+    ghost free_inside = { λ d. ⟦<Data1<'a> as HoldsData>⟧.free_inside d.fields };
 
     fn new(alloc: Global) -> Self {
         AccountPart1Decoder {
-            fields: View::new(alloc),
+            fields: HoldsData::new(alloc),
         }
-    }
-
-    fn read(&mut self, input: &mut &'a [u8], k: usize, strict: bool) -> Result<bool, Error> {
-        self.fields.read(input, k, strict)
     }
 
     fn column_free(&self) -> ColumnFree {
         self.fields.column_free()
+    }
+}
+
+impl<'a> View<'a> for AccountPart1Decoder<'a> {
+    fn read(&mut self, input: &mut &'a [u8], k: usize, strict: bool) -> Result<bool, Error> {
+        self.fields.read(input, k, strict)
     }
 }
 
@@ -291,23 +287,23 @@ impl<'a> HoldsData for AccountPart2Decoder<'a> {
     ghost held = { λ d. ⟦<Data2<'a> as HoldsData>⟧.held d.fields };
 
     ghost owned = { λ d. ⟦<Data2<'a> as HoldsData>⟧.owned d.fields };
-}
 
-impl<'a> View<'a> for AccountPart2Decoder<'a> {
-    ghost free_inside = { λ d. ⟦<Data2<'a> as View<'a>>⟧.free_inside d.fields };
+    ghost free_inside = { λ d. ⟦<Data2<'a> as HoldsData>⟧.free_inside d.fields };
 
     fn new(alloc: Global) -> Self {
         AccountPart2Decoder {
-            fields: View::new(alloc),
+            fields: HoldsData::new(alloc),
         }
-    }
-
-    fn read(&mut self, input: &mut &'a [u8], k: usize, strict: bool) -> Result<bool, Error> {
-        self.fields.read(input, k, strict)
     }
 
     fn column_free(&self) -> ColumnFree {
         self.fields.column_free()
+    }
+}
+
+impl<'a> View<'a> for AccountPart2Decoder<'a> {
+    fn read(&mut self, input: &mut &'a [u8], k: usize, strict: bool) -> Result<bool, Error> {
+        self.fields.read(input, k, strict)
     }
 }
 
@@ -637,8 +633,7 @@ impl Buffer for AccountPart0Encoder {
 
     ghost capacity = { λ e. ⟦<Held0<'static> as Buffer>⟧.capacity e.fields };
 
-    ghost surely_overflows = { λ e n. SurelyOverflows ⟦<Pairs0<'static> as Shaped>⟧.data.shape
-        (⟦<Held0<'static> as Buffer>⟧.columns e.fields) n };
+    ghost surely_overflows = { λ e n. ⊥ };
 
     ghost overflows = { λ e n. ⟦<Held0<'static> as Buffer>⟧.overflows e.fields n };
 
@@ -649,7 +644,7 @@ impl Buffer for AccountPart0Encoder {
     }
 
     fn reserve(&mut self, n: usize) -> Result<(), Error> {
-        reserve_part::<Account<'static>, Numbers0, _>(&mut self.fields, n)
+        self.fields.reserve(n)
     }
 
     fn collect_into(&mut self, out: &mut Vec<u8>) -> Result<(), Error> {
@@ -700,7 +695,7 @@ impl<'a> PartEncoder<Account<'a>, AccountPart0<'a>> for AccountPart0Encoder {
 
     ghost of_shape = { λ e. refl };
 
-    ghost surely = { λ e n h. h };
+    ghost surely = { λ e n h. absurd h };
 }
 
 type Pairs1 = ((i64, (Option<i16>, Vec<u8>)), (char, (Vec<String>, Home)));
@@ -722,8 +717,7 @@ impl Buffer for AccountPart1Encoder {
 
     ghost capacity = { λ e. ⟦<Held1 as Buffer>⟧.capacity e.fields };
 
-    ghost surely_overflows = { λ e n. SurelyOverflows ⟦<Pairs1 as Shaped>⟧.data.shape
-        (⟦<Held1 as Buffer>⟧.columns e.fields) n };
+    ghost surely_overflows = { λ e n. ⊥ };
 
     ghost overflows = { λ e n. ⟦<Held1 as Buffer>⟧.overflows e.fields n };
 
@@ -734,7 +728,7 @@ impl Buffer for AccountPart1Encoder {
     }
 
     fn reserve(&mut self, n: usize) -> Result<(), Error> {
-        reserve_part::<Account<'static>, Numbers1, _>(&mut self.fields, n)
+        self.fields.reserve(n)
     }
 
     fn collect_into(&mut self, out: &mut Vec<u8>) -> Result<(), Error> {
@@ -787,7 +781,7 @@ impl<'a> PartEncoder<Account<'a>, AccountPart1> for AccountPart1Encoder {
 
     ghost of_shape = { λ e. refl };
 
-    ghost surely = { λ e n h. h };
+    ghost surely = { λ e n h. absurd h };
 }
 
 type Pairs2 = (((i32, i32), (Option<Trophy>, u32)), (u16, (u128, u8)));
@@ -809,8 +803,7 @@ impl Buffer for AccountPart2Encoder {
 
     ghost capacity = { λ e. ⟦<Held2 as Buffer>⟧.capacity e.fields };
 
-    ghost surely_overflows = { λ e n. SurelyOverflows ⟦<Pairs2 as Shaped>⟧.data.shape
-        (⟦<Held2 as Buffer>⟧.columns e.fields) n };
+    ghost surely_overflows = { λ e n. ⊥ };
 
     ghost overflows = { λ e n. ⟦<Held2 as Buffer>⟧.overflows e.fields n };
 
@@ -821,7 +814,7 @@ impl Buffer for AccountPart2Encoder {
     }
 
     fn reserve(&mut self, n: usize) -> Result<(), Error> {
-        reserve_part::<Account<'static>, Numbers2, _>(&mut self.fields, n)
+        self.fields.reserve(n)
     }
 
     fn collect_into(&mut self, out: &mut Vec<u8>) -> Result<(), Error> {
@@ -874,7 +867,7 @@ impl<'a> PartEncoder<Account<'a>, AccountPart2> for AccountPart2Encoder {
 
     ghost of_shape = { λ e. refl };
 
-    ghost surely = { λ e n h. h };
+    ghost surely = { λ e n h. absurd h };
 }
 
 type Fields = TupleEncoder<
@@ -914,8 +907,7 @@ impl Buffer for AccountEncoder {
 
     ghost capacity = { λ e. ⟦<Held as Buffer>⟧.capacity e.fields };
 
-    ghost surely_overflows = { λ e n. SurelyOverflows ⟦<Account<'static> as Shaped>⟧.data.shape
-        (⟦<Held as Buffer>⟧.columns e.fields) n };
+    ghost surely_overflows = { λ e n. ⊥ };
 
     ghost overflows = { λ e n. ⟦<Held as Buffer>⟧.overflows e.fields n };
 
@@ -926,7 +918,7 @@ impl Buffer for AccountEncoder {
     }
 
     fn reserve(&mut self, n: usize) -> Result<(), Error> {
-        reserve_as::<Account<'static>, _>(&mut self.fields, n)
+        self.fields.reserve(n)
     }
 
     fn collect_into(&mut self, out: &mut Vec<u8>) -> Result<(), Error> {
@@ -962,7 +954,7 @@ impl<'a> Encoder<Account<'a>> for AccountEncoder {
 
     ghost of_shape = { λ e. refl };
 
-    ghost surely = { λ e n h. h };
+    ghost surely = { λ e n h. absurd h };
 }
 
 impl<'a> HasEncoder for Account<'a> {
@@ -983,23 +975,23 @@ impl<'a> HoldsData for AccountDecoder<'a> {
     ghost held = { λ d. ⟦<Data<'a> as HoldsData>⟧.held d.fields };
 
     ghost owned = { λ d. ⟦<Data<'a> as HoldsData>⟧.owned d.fields };
-}
 
-impl<'a> View<'a> for AccountDecoder<'a> {
-    ghost free_inside = { λ d. ⟦<Data<'a> as View<'a>>⟧.free_inside d.fields };
+    ghost free_inside = { λ d. ⟦<Data<'a> as HoldsData>⟧.free_inside d.fields };
 
     fn new(alloc: Global) -> Self {
         AccountDecoder {
-            fields: View::new(alloc),
+            fields: HoldsData::new(alloc),
         }
-    }
-
-    fn read(&mut self, input: &mut &'a [u8], k: usize, strict: bool) -> Result<bool, Error> {
-        self.fields.read(input, k, strict)
     }
 
     fn column_free(&self) -> ColumnFree {
         self.fields.column_free()
+    }
+}
+
+impl<'a> View<'a> for AccountDecoder<'a> {
+    fn read(&mut self, input: &mut &'a [u8], k: usize, strict: bool) -> Result<bool, Error> {
+        self.fields.read(input, k, strict)
     }
 }
 

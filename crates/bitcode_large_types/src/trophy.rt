@@ -1,10 +1,9 @@
 //! `Trophy` corresponds to the tuple of its fields. What is below its declaration was written by `scripts/new_type`.
 ghost use Rattle.std.specs.Prelude.{◌&&◌, IfSome};
-ghost use Rattle.bitcode.specs.ByHand.{ReadsValue, SurelyOverflows, columns_alike, data_as, field_alike, pair_alike};
-ghost use Rattle.bitcode.specs.ByHand.{refl};
+ghost use Rattle.bitcode.specs.ByHand.{ReadsValue, columns_alike, data_as, field_alike, pair_alike, refl};
 
 use bitcode::coder::{Buffer, ColumnFree, Decoder, Encoder, HoldsData, View};
-use bitcode::own::{DecoderOfFields, HasField, InFields, Nth, Part, StructEncoder, reserve_as};
+use bitcode::own::{DecoderOfFields, HasField, InFields, Nth, Part, StructEncoder};
 use bitcode::{ConvertFrom, DecodeOwned, Error, HasDecoder, HasEncoder, Shaped};
 use std::alloc::Global;
 
@@ -86,8 +85,7 @@ impl Buffer for TrophyEncoder {
 
     ghost capacity = { λ e. ⟦<Held as Buffer>⟧.capacity e.fields };
 
-    ghost surely_overflows = { λ e n. SurelyOverflows ⟦<Trophy as Shaped>⟧.data.shape
-        (⟦<Held as Buffer>⟧.columns e.fields) n };
+    ghost surely_overflows = { λ e n. ⊥ };
 
     ghost overflows = { λ e n. ⟦<Held as Buffer>⟧.overflows e.fields n };
 
@@ -98,7 +96,7 @@ impl Buffer for TrophyEncoder {
     }
 
     fn reserve(&mut self, n: usize) -> Result<(), Error> {
-        reserve_as::<Trophy, _>(&mut self.fields, n)
+        self.fields.reserve(n)
     }
 
     fn collect_into(&mut self, out: &mut Vec<u8>) -> Result<(), Error> {
@@ -133,7 +131,7 @@ impl Encoder<Trophy> for TrophyEncoder {
 
     ghost of_shape = { λ e. refl };
 
-    ghost surely = { λ e n h. h };
+    ghost surely = { λ e n h. absurd h };
 }
 
 impl HasEncoder for Trophy {
@@ -154,23 +152,23 @@ impl<'a> HoldsData for TrophyDecoder<'a> {
     ghost held = { λ d. ⟦<Data<'a> as HoldsData>⟧.held d.fields };
 
     ghost owned = { λ d. ⟦<Data<'a> as HoldsData>⟧.owned d.fields };
-}
 
-impl<'a> View<'a> for TrophyDecoder<'a> {
-    ghost free_inside = { λ d. ⟦<Data<'a> as View<'a>>⟧.free_inside d.fields };
+    ghost free_inside = { λ d. ⟦<Data<'a> as HoldsData>⟧.free_inside d.fields };
 
     fn new(alloc: Global) -> Self {
         TrophyDecoder {
-            fields: View::new(alloc),
+            fields: HoldsData::new(alloc),
         }
-    }
-
-    fn read(&mut self, input: &mut &'a [u8], k: usize, strict: bool) -> Result<bool, Error> {
-        self.fields.read(input, k, strict)
     }
 
     fn column_free(&self) -> ColumnFree {
         self.fields.column_free()
+    }
+}
+
+impl<'a> View<'a> for TrophyDecoder<'a> {
+    fn read(&mut self, input: &mut &'a [u8], k: usize, strict: bool) -> Result<bool, Error> {
+        self.fields.read(input, k, strict)
     }
 }
 
@@ -182,7 +180,7 @@ impl<'a> Decoder<Trophy> for TrophyDecoder<'a> {
     }
 
     fn reads_one() -> bool {
-        <Data<'a> as Decoder<Trophy>>::reads_one()
+        true
     }
 
     #[inline(always)]

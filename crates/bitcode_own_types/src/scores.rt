@@ -72,23 +72,23 @@ impl<'a> HoldsData for ScoresDecoder<'a> {
     ghost held = { λ d. ⟦<Lists<'a> as HoldsData>⟧.held d.lists };
 
     ghost owned = { λ d. ⟦<Lists<'a> as HoldsData>⟧.owned d.lists };
-}
 
-impl<'a> View<'a> for ScoresDecoder<'a> {
-    ghost free_inside = { λ d. ⟦<Lists<'a> as View<'a>>⟧.free_inside d.lists };
+    ghost free_inside = { λ d. ⟦<Lists<'a> as HoldsData>⟧.free_inside d.lists };
 
     fn new(alloc: Global) -> Self {
         ScoresDecoder {
-            lists: View::new(alloc),
+            lists: HoldsData::new(alloc),
         }
-    }
-
-    fn read(&mut self, input: &mut &'a [u8], k: usize, strict: bool) -> Result<bool> {
-        self.lists.read(input, k, strict)
     }
 
     fn column_free(&self) -> ColumnFree {
         self.lists.column_free()
+    }
+}
+
+impl<'a> View<'a> for ScoresDecoder<'a> {
+    fn read(&mut self, input: &mut &'a [u8], k: usize, strict: bool) -> Result<bool> {
+        self.lists.read(input, k, strict)
     }
 }
 

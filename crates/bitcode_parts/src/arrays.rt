@@ -139,9 +139,7 @@ impl<D: HoldsData, const N: usize> HoldsData for ArrayDecoder<D, N> {
     ghost held = { λ d. arrays_of N d.left (D.held d.elements) };
 
     ghost owned = { λ d. D.owned d.elements };
-}
 
-impl<'a, D: View<'a>, const N: usize> View<'a> for ArrayDecoder<D, N> {
     ghost free_inside = { λ d. count_if_free (has_entry D.shape) (d.left * N)
         + D.free_inside d.elements };
 
@@ -153,6 +151,16 @@ impl<'a, D: View<'a>, const N: usize> View<'a> for ArrayDecoder<D, N> {
         }
     }
 
+    fn column_free(&self) -> ColumnFree {
+        let elements = self.elements.column_free();
+        ColumnFree {
+            has_entry: N > 0 && elements.has_entry,
+            inside: elements.in_arrays(self.left, N),
+        }
+    }
+}
+
+impl<'a, D: View<'a>, const N: usize> View<'a> for ArrayDecoder<D, N> {
     fn read(&mut self, input: &mut &'a [u8], k: usize, strict: bool) -> Result<bool, Error>
         ensures read { OnOk result
             (Reads (Spells (array_shape N D.shape)) k input.old.now
@@ -176,14 +184,6 @@ impl<'a, D: View<'a>, const N: usize> View<'a> for ArrayDecoder<D, N> {
         let written = self.elements.read(input, count, strict)?;
         self.left = k;
         Ok(written)
-    }
-
-    fn column_free(&self) -> ColumnFree {
-        let elements = self.elements.column_free();
-        ColumnFree {
-            has_entry: N > 0 && elements.has_entry,
-            inside: elements.in_arrays(self.left, N),
-        }
     }
 }
 

@@ -150,9 +150,7 @@ impl<T: Drop, D: HoldsData> HoldsData for ConvertFromDecoder<T, D> {
     ghost held = { λ d. D.held d.inner };
 
     ghost owned = { λ d. D.owned d.inner };
-}
 
-impl<'a, T: Drop, D: View<'a>> View<'a> for ConvertFromDecoder<T, D> {
     ghost free_inside = { λ d. D.free_inside d.inner };
 
     fn new(alloc: Global) -> Self {
@@ -163,12 +161,14 @@ impl<'a, T: Drop, D: View<'a>> View<'a> for ConvertFromDecoder<T, D> {
         }
     }
 
-    fn read(&mut self, input: &mut &'a [u8], k: usize, strict: bool) -> Result<bool, Error> {
-        self.inner.read(input, k, strict)
-    }
-
     fn column_free(&self) -> ColumnFree {
         self.inner.column_free()
+    }
+}
+
+impl<'a, T: Drop, D: View<'a>> View<'a> for ConvertFromDecoder<T, D> {
+    fn read(&mut self, input: &mut &'a [u8], k: usize, strict: bool) -> Result<bool, Error> {
+        self.inner.read(input, k, strict)
     }
 }
 

@@ -31,7 +31,7 @@ impl Buffer for EmptyCoder {
     ghost overflows = { λ e n. ⊥ };
 
     fn new(alloc: Global) -> Self {
-        View::new(alloc)
+        HoldsData::new(alloc)
     }
 
     fn reserve(&mut self, _n: usize) -> Result<(), Error> {
@@ -63,18 +63,11 @@ impl HoldsData for EmptyCoder {
     ghost held = { λ d. replicate d.left unit };
 
     ghost owned = { λ d. 0 };
-}
 
-impl<'a> View<'a> for EmptyCoder {
     ghost free_inside = { λ d. 0 };
 
     fn new(_alloc: Global) -> Self {
         EmptyCoder { left: 0 }
-    }
-
-    fn read(&mut self, _input: &mut &'a [u8], k: usize, _strict: bool) -> Result<bool, Error> {
-        self.left = k;
-        Ok(true)
     }
 
     fn column_free(&self) -> ColumnFree {
@@ -82,6 +75,13 @@ impl<'a> View<'a> for EmptyCoder {
             has_entry: false,
             inside: 0,
         }
+    }
+}
+
+impl<'a> View<'a> for EmptyCoder {
+    fn read(&mut self, _input: &mut &'a [u8], k: usize, _strict: bool) -> Result<bool, Error> {
+        self.left = k;
+        Ok(true)
     }
 }
 

@@ -47,9 +47,7 @@ impl<'a, D: HoldsData, const N: usize> HoldsData for ArrayVecDecoder<'a, D, N> {
     ghost held = { λ d. lists_of (lengths_left d.lengths) (D.held d.elements) };
 
     ghost owned = { λ d. lengths_owned d.lengths + D.owned d.elements };
-}
 
-impl<'a, D: View<'a>, const N: usize> View<'a> for ArrayVecDecoder<'a, D, N> {
     ghost free_inside = { λ d. count_if_free (has_entry D.shape) (lengths_sum d.lengths)
         + D.free_inside d.elements };
 
@@ -61,6 +59,15 @@ impl<'a, D: View<'a>, const N: usize> View<'a> for ArrayVecDecoder<'a, D, N> {
         }
     }
 
+    fn column_free(&self) -> ColumnFree {
+        ColumnFree {
+            has_entry: true,
+            inside: self.elements.column_free().in_lists(self.lengths.length()),
+        }
+    }
+}
+
+impl<'a, D: View<'a>, const N: usize> View<'a> for ArrayVecDecoder<'a, D, N> {
     fn read(&mut self, input: &mut &'a [u8], k: usize, strict: bool) -> Result<bool, Error> {
         let mut lengths = LengthDecoder::new(self.alloc);
         let lengths_written = lengths.read(input, k, strict)?;
@@ -70,13 +77,6 @@ impl<'a, D: View<'a>, const N: usize> View<'a> for ArrayVecDecoder<'a, D, N> {
         }
         self.lengths = lengths;
         Ok(both(lengths_written, elements_written))
-    }
-
-    fn column_free(&self) -> ColumnFree {
-        ColumnFree {
-            has_entry: true,
-            inside: self.elements.column_free().in_lists(self.lengths.length()),
-        }
     }
 }
 

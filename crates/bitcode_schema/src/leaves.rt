@@ -10,7 +10,7 @@ ghost use Rattle.bitcode_schema.specs.Reading.{ReadsData};
 
 use crate::limits::exceed;
 use crate::schema::IntKind;
-use bitcode_coder::coder::{View, both};
+use bitcode_coder::coder::{HoldsData, View, both};
 use bitcode_coder::length::LengthDecoder;
 use bitcode_coder::str::StrDecoder;
 use bitcode_ints::checked::CheckedIntDecoder;

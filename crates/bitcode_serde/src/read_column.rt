@@ -19,7 +19,7 @@ ghost use Rattle.bitcode_serde.specs.ReadColumns.{AddsTaken, ReadsColumn, IsColu
 use crate::case::Case;
 use crate::column::{Column, ColumnKind, for_leaves};
 use crate::serde::VariantDecoder;
-use bitcode_coder::coder::{Decoder, View};
+use bitcode_coder::coder::{Decoder, HoldsData, View};
 use bitcode_coder::length::LengthDecoder;
 use bitcode_memory::error::{Error, Reason};
 use bitcode_shapes::shaped::Shaped;

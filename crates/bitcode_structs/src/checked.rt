@@ -101,10 +101,7 @@ impl<T: FromChecked<P, D> + Drop, P: Shaped + Drop, D: Decoder<P>> HoldsData
     ghost held = { λ d. admitted_front T.admits (D.held d.fields) };
 
     ghost owned = { λ d. D.owned d.fields };
-}
 
-impl<'a, T: FromChecked<P, D> + Drop, P: Shaped + Drop, D: View<'a> + Decoder<P> + Drop> View<'a>
-    for CheckedDecoder<T, P, D> {
     ghost free_inside = { λ d. D.free_inside d.fields };
 
     fn new(alloc: Global) -> Self {
@@ -116,6 +113,13 @@ impl<'a, T: FromChecked<P, D> + Drop, P: Shaped + Drop, D: View<'a> + Decoder<P>
         }
     }
 
+    fn column_free(&self) -> ColumnFree {
+        self.fields.column_free()
+    }
+}
+
+impl<'a, T: FromChecked<P, D> + Drop, P: Shaped + Drop, D: View<'a> + Decoder<P> + Drop> View<'a>
+    for CheckedDecoder<T, P, D> {
     fn read(&mut self, input: &mut &'a [u8], k: usize, strict: bool) -> Result<bool, Error> {
         let mut start = *input;
         let written = self.fields.read(input, k, strict)?;
@@ -125,10 +129,6 @@ impl<'a, T: FromChecked<P, D> + Drop, P: Shaped + Drop, D: View<'a> + Decoder<P>
             return err(Reason::InvalidBitPattern);
         }
         Ok(written)
-    }
-
-    fn column_free(&self) -> ColumnFree {
-        self.fields.column_free()
     }
 }
 

@@ -71,9 +71,7 @@ impl<P: Drop, D: HoldsData> HoldsData for PrivateDecoder<P, D> {
     ghost held = { λ d. D.held d.fields };
 
     ghost owned = { λ d. D.owned d.fields };
-}
 
-impl<'a, P: Drop, D: View<'a>> View<'a> for PrivateDecoder<P, D> {
     ghost free_inside = { λ d. D.free_inside d.fields };
 
     fn new(alloc: Global) -> Self {
@@ -83,12 +81,14 @@ impl<'a, P: Drop, D: View<'a>> View<'a> for PrivateDecoder<P, D> {
         }
     }
 
-    fn read(&mut self, input: &mut &'a [u8], k: usize, strict: bool) -> Result<bool, Error> {
-        self.fields.read(input, k, strict)
-    }
-
     fn column_free(&self) -> ColumnFree {
         self.fields.column_free()
+    }
+}
+
+impl<'a, P: Drop, D: View<'a>> View<'a> for PrivateDecoder<P, D> {
+    fn read(&mut self, input: &mut &'a [u8], k: usize, strict: bool) -> Result<bool, Error> {
+        self.fields.read(input, k, strict)
     }
 }
 

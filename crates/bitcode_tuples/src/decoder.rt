@@ -28,9 +28,7 @@ impl<A: HoldsData, B: HoldsData> HoldsData for TupleDecoder<A, B> {
     ghost held = { λ d. pairs_of (A.held d.first) (B.held d.second) };
 
     ghost owned = { λ d. A.owned d.first + B.owned d.second };
-}
 
-impl<'a, A: View<'a>, B: View<'a>> View<'a> for TupleDecoder<A, B> {
     ghost free_inside = { λ d. A.free_inside d.first + B.free_inside d.second };
 
     fn new(alloc: Global) -> Self {
@@ -40,12 +38,6 @@ impl<'a, A: View<'a>, B: View<'a>> View<'a> for TupleDecoder<A, B> {
         }
     }
 
-    fn read(&mut self, input: &mut &'a [u8], k: usize, strict: bool) -> Result<bool, Error> {
-        let first = self.first.read(input, k, strict)?;
-        let second = self.second.read(input, k, strict)?;
-        Ok(both(first, second))
-    }
-
     fn column_free(&self) -> ColumnFree {
         let first = self.first.column_free();
         let second = self.second.column_free();
@@ -53,6 +45,14 @@ impl<'a, A: View<'a>, B: View<'a>> View<'a> for TupleDecoder<A, B> {
             has_entry: first.has_entry || second.has_entry,
             inside: first.inside.saturating_add(second.inside),
         }
+    }
+}
+
+impl<'a, A: View<'a>, B: View<'a>> View<'a> for TupleDecoder<A, B> {
+    fn read(&mut self, input: &mut &'a [u8], k: usize, strict: bool) -> Result<bool, Error> {
+        let first = self.first.read(input, k, strict)?;
+        let second = self.second.read(input, k, strict)?;
+        Ok(both(first, second))
     }
 }
 

@@ -213,9 +213,7 @@ impl<'a> HoldsData for StrDecoder<'a> {
     ghost held = { λ d. map text (cut (lengths_left d.lengths) (slice_rest d.bytes)) };
 
     ghost owned = { λ d. lengths_owned d.lengths };
-}
 
-impl<'a> View<'a> for StrDecoder<'a> {
     ghost free_inside = { λ d. 0 };
 
     fn new(alloc: Global) -> Self {
@@ -227,13 +225,15 @@ impl<'a> View<'a> for StrDecoder<'a> {
         }
     }
 
+    fn column_free(&self) -> ColumnFree {
+        ColumnFree::entries()
+    }
+}
+
+impl<'a> View<'a> for StrDecoder<'a> {
     #[inline(always)]
     fn read(&mut self, input: &mut &'a [u8], k: usize, strict: bool) -> Result<bool, Error> {
         self.read_column(input, k, strict)
-    }
-
-    fn column_free(&self) -> ColumnFree {
-        ColumnFree::entries()
     }
 }
 

@@ -42,9 +42,7 @@ impl<'a, const N: usize> HoldsData for ArrayStringDecoder<'a, N> {
         (cut (lengths_left d.column.lengths) (slice_rest d.column.bytes)) };
 
     ghost owned = { λ d. lengths_owned d.column.lengths };
-}
 
-impl<'a, const N: usize> View<'a> for ArrayStringDecoder<'a, N> {
     ghost free_inside = { λ d. 0 };
 
     fn new(alloc: Global) -> Self {
@@ -54,6 +52,12 @@ impl<'a, const N: usize> View<'a> for ArrayStringDecoder<'a, N> {
         }
     }
 
+    fn column_free(&self) -> ColumnFree {
+        ColumnFree::entries()
+    }
+}
+
+impl<'a, const N: usize> View<'a> for ArrayStringDecoder<'a, N> {
     fn read(&mut self, input: &mut &'a [u8], k: usize, strict: bool) -> Result<bool, Error> {
         let mut column = StrDecoder::new(self.alloc);
         let written = column.read_column(input, k, strict)?;
@@ -62,10 +66,6 @@ impl<'a, const N: usize> View<'a> for ArrayStringDecoder<'a, N> {
         }
         self.column = column;
         Ok(written)
-    }
-
-    fn column_free(&self) -> ColumnFree {
-        ColumnFree::entries()
     }
 }
 

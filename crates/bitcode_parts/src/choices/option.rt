@@ -141,24 +141,15 @@ impl<'a, D: HoldsData> HoldsData for OptionDecoder<'a, D> {
         (⟦<EmptyCoder as HoldsData>⟧.held d.none ∷ D.held d.some ∷ []) };
 
     ghost owned = { λ d. variants_owned d.variants + D.owned d.some };
-}
 
-impl<'a, D: View<'a>> View<'a> for OptionDecoder<'a, D> {
     ghost free_inside = { λ d. D.free_inside d.some };
 
     fn new(alloc: Global) -> Self {
         OptionDecoder {
             variants: VariantDecoder::new(alloc),
-            none: View::new(alloc),
+            none: HoldsData::new(alloc),
             some: D::new(alloc),
         }
-    }
-
-    fn read(&mut self, input: &mut &'a [u8], k: usize, strict: bool) -> Result<bool, Error> {
-        let variants = self.variants.read(input, k, strict)?;
-        let none = self.none.read(input, self.variants.length(0), strict)?;
-        let some = self.some.read(input, self.variants.length(1), strict)?;
-        Ok(both(both(variants, none), some))
     }
 
     fn column_free(&self) -> ColumnFree {
@@ -166,6 +157,15 @@ impl<'a, D: View<'a>> View<'a> for OptionDecoder<'a, D> {
             has_entry: true,
             inside: self.some.column_free().inside,
         }
+    }
+}
+
+impl<'a, D: View<'a>> View<'a> for OptionDecoder<'a, D> {
+    fn read(&mut self, input: &mut &'a [u8], k: usize, strict: bool) -> Result<bool, Error> {
+        let variants = self.variants.read(input, k, strict)?;
+        let none = self.none.read(input, self.variants.length(0), strict)?;
+        let some = self.some.read(input, self.variants.length(1), strict)?;
+        Ok(both(both(variants, none), some))
     }
 }
 

@@ -110,9 +110,7 @@ impl<'a, A: HoldsData, B: HoldsData> HoldsData for ResultDecoder<'a, A, B> {
     ghost held = { λ d. choices_of (variants_left d.variants) (A.held d.ok ∷ B.held d.err ∷ []) };
 
     ghost owned = { λ d. variants_owned d.variants + A.owned d.ok + B.owned d.err };
-}
 
-impl<'a, A: View<'a>, B: View<'a>> View<'a> for ResultDecoder<'a, A, B> {
     ghost free_inside = { λ d. A.free_inside d.ok + B.free_inside d.err };
 
     fn new(alloc: Global) -> Self {
@@ -123,19 +121,21 @@ impl<'a, A: View<'a>, B: View<'a>> View<'a> for ResultDecoder<'a, A, B> {
         }
     }
 
-    fn read(&mut self, input: &mut &'a [u8], k: usize, strict: bool) -> Result<bool, Error> {
-        let variants = self.variants.read(input, k, strict)?;
-        let ok = self.ok.read(input, self.variants.length(0), strict)?;
-        let err = self.err.read(input, self.variants.length(1), strict)?;
-        Ok(both(both(variants, ok), err))
-    }
-
     fn column_free(&self) -> ColumnFree {
         let err = self.err.column_free();
         ColumnFree {
             has_entry: true,
             inside: self.ok.column_free().inside.saturating_add(err.inside),
         }
+    }
+}
+
+impl<'a, A: View<'a>, B: View<'a>> View<'a> for ResultDecoder<'a, A, B> {
+    fn read(&mut self, input: &mut &'a [u8], k: usize, strict: bool) -> Result<bool, Error> {
+        let variants = self.variants.read(input, k, strict)?;
+        let ok = self.ok.read(input, self.variants.length(0), strict)?;
+        let err = self.err.read(input, self.variants.length(1), strict)?;
+        Ok(both(both(variants, ok), err))
     }
 }
 

@@ -255,18 +255,22 @@ impl<'a, const N: usize, const C_STYLE: bool> HoldsData for VariantDecoder<'a, N
     ghost held = { λ d. bare_choices N (variants_left d) };
 
     ghost owned = { variants_owned };
-}
-
-impl<'a, const N: usize, const C_STYLE: bool> View<'a> for VariantDecoder<'a, N, C_STYLE> {
-    ghost use Rattle.bitcode_shapes.specs.BareVariants.{bare_shape};
-    ghost use Rattle.bitcode_parts.specs.BareVariants.{bare_choices};
-    ghost use Rattle.bitcode_parts.specs.Variants.{variants_left, variant_counts};
 
     ghost free_inside = { λ d. 0 };
 
     fn new(alloc: Global) -> Self {
         VariantDecoder::new(alloc)
     }
+
+    fn column_free(&self) -> ColumnFree {
+        ColumnFree::entries()
+    }
+}
+
+impl<'a, const N: usize, const C_STYLE: bool> View<'a> for VariantDecoder<'a, N, C_STYLE> {
+    ghost use Rattle.bitcode_shapes.specs.BareVariants.{bare_shape};
+    ghost use Rattle.bitcode_parts.specs.BareVariants.{bare_choices};
+    ghost use Rattle.bitcode_parts.specs.Variants.{variants_left, variant_counts};
 
     fn read(&mut self, input: &mut &'a [u8], k: usize, strict: bool) -> Result<bool, Error>
         ensures read { OnOk result
@@ -287,10 +291,6 @@ impl<'a, const N: usize, const C_STYLE: bool> View<'a> for VariantDecoder<'a, N,
             (C_STYLE ≡ false → AreCounts N (variants_left self.new) (variant_counts self.new)) }
     {
         self.read(input, k, strict)
-    }
-
-    fn column_free(&self) -> ColumnFree {
-        ColumnFree::entries()
     }
 }
 

@@ -261,9 +261,7 @@ impl<'a, D: HoldsData> HoldsData for VecDecoder<'a, D> {
     ghost held = { λ d. lists_of (lengths_left d.lengths) (D.held d.elements) };
 
     ghost owned = { λ d. lengths_owned d.lengths + D.owned d.elements };
-}
 
-impl<'a, D: View<'a>> View<'a> for VecDecoder<'a, D> {
     ghost free_inside = { λ d. count_if_free (has_entry D.shape) (lengths_sum d.lengths)
         + D.free_inside d.elements };
 
@@ -275,6 +273,15 @@ impl<'a, D: View<'a>> View<'a> for VecDecoder<'a, D> {
         }
     }
 
+    fn column_free(&self) -> ColumnFree {
+        ColumnFree {
+            has_entry: true,
+            inside: self.elements.column_free().in_lists(self.lengths.length()),
+        }
+    }
+}
+
+impl<'a, D: View<'a>> View<'a> for VecDecoder<'a, D> {
     fn read(&mut self, input: &mut &'a [u8], k: usize, strict: bool) -> Result<bool, Error>
         ensures read { OnOk result
             (Reads (Spells (seq_shape None D.shape)) k input.old.now
@@ -299,13 +306,6 @@ impl<'a, D: View<'a>> View<'a> for VecDecoder<'a, D> {
         let lengths = self.lengths.read(input, k, strict)?;
         let elements = self.elements.read(input, self.lengths.length(), strict)?;
         Ok(both(lengths, elements))
-    }
-
-    fn column_free(&self) -> ColumnFree {
-        ColumnFree {
-            has_entry: true,
-            inside: self.elements.column_free().in_lists(self.lengths.length()),
-        }
     }
 }
 

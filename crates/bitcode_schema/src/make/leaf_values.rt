@@ -25,7 +25,7 @@ use crate::make::becomes::Becomes;
 use crate::make::gather::{arrays, each, zipped};
 use crate::make::turns::AsSpan;
 use crate::schema::IntKind;
-use bitcode_coder::coder::{Decoder, View};
+use bitcode_coder::coder::{Decoder, HoldsData, View};
 use bitcode_coder::length::LengthDecoder;
 use bitcode_coder::str::StrDecoder;
 use bitcode_derive::absent::AbsentDecoder;

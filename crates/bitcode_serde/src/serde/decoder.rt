@@ -91,17 +91,13 @@ fn count(bytes: &[u8], index: u8) -> usize
 }
 
 impl<'a> HoldsData for VariantDecoder<'a> {
-    ghost use Rattle.bitcode_serde.specs.Indices.{indices_left, indices_owned};
+    ghost use Rattle.bitcode_serde.specs.Indices.{indices_left, indices_owned, index_count};
 
     ghost shape = { int_shape 1 false };
 
     ghost held = { indices_left };
 
     ghost owned = { indices_owned };
-}
-
-impl<'a> View<'a> for VariantDecoder<'a> {
-    ghost use Rattle.bitcode_serde.specs.Indices.{indices_left, indices_owned, index_count};
 
     ghost free_inside = { λ d. 0 };
 
@@ -117,6 +113,14 @@ impl<'a> View<'a> for VariantDecoder<'a> {
             counts: Vec::new(alloc),
         }
     }
+
+    fn column_free(&self) -> ColumnFree {
+        ColumnFree::entries()
+    }
+}
+
+impl<'a> View<'a> for VariantDecoder<'a> {
+    ghost use Rattle.bitcode_serde.specs.Indices.{indices_left, indices_owned, index_count};
 
     /// Reads `k` indices from the front of the input, and counts them.
     ///
@@ -147,10 +151,6 @@ impl<'a> View<'a> for VariantDecoder<'a> {
         known_bytes(bytes);
         self.counts = counts_of(self.alloc, bytes);
         Ok(written)
-    }
-
-    fn column_free(&self) -> ColumnFree {
-        ColumnFree::entries()
     }
 }
 

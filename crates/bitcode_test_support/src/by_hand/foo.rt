@@ -99,24 +99,15 @@ impl<'a> HoldsData for FooDecoder<'a> {
 
     ghost owned = { λ d. ⟦<IntDecoder<'a, u32> as HoldsData>⟧.owned d.x
         + ⟦<StrDecoder<'a> as HoldsData>⟧.owned d.y };
-}
 
-impl<'a> View<'a> for FooDecoder<'a> {
-    ghost free_inside = { λ d. ⟦<IntDecoder<'a, u32> as View<'a>>⟧.free_inside d.x
-        + ⟦<StrDecoder<'a> as View<'a>>⟧.free_inside d.y };
+    ghost free_inside = { λ d. ⟦<IntDecoder<'a, u32> as HoldsData>⟧.free_inside d.x
+        + ⟦<StrDecoder<'a> as HoldsData>⟧.free_inside d.y };
 
     fn new(alloc: Global) -> Self {
         FooDecoder {
-            x: View::new(alloc),
-            y: View::new(alloc),
+            x: HoldsData::new(alloc),
+            y: HoldsData::new(alloc),
         }
-    }
-
-    #[tactic(auto, using(bitcode_tuples::proofs::StructLemmas::struct_reading))]
-    fn read(&mut self, input: &mut &'a [u8], k: usize, strict: bool) -> Result<bool> {
-        let x = self.x.read(input, k, strict)?;
-        let y = self.y.read(input, k, strict)?;
-        Ok(both(x, y))
     }
 
     fn column_free(&self) -> ColumnFree {
@@ -126,6 +117,15 @@ impl<'a> View<'a> for FooDecoder<'a> {
             has_entry: x.has_entry || y.has_entry,
             inside: x.inside.saturating_add(y.inside),
         }
+    }
+}
+
+impl<'a> View<'a> for FooDecoder<'a> {
+    #[tactic(auto, using(bitcode_tuples::proofs::StructLemmas::struct_reading))]
+    fn read(&mut self, input: &mut &'a [u8], k: usize, strict: bool) -> Result<bool> {
+        let x = self.x.read(input, k, strict)?;
+        let y = self.y.read(input, k, strict)?;
+        Ok(both(x, y))
     }
 }
 

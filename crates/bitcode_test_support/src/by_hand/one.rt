@@ -83,23 +83,23 @@ impl<'a> HoldsData for OneDecoder<'a> {
     ghost held = { λ d. ⟦<IntDecoder<'a, u8> as HoldsData>⟧.held d.a };
 
     ghost owned = { λ d. ⟦<IntDecoder<'a, u8> as HoldsData>⟧.owned d.a };
-}
 
-impl<'a> View<'a> for OneDecoder<'a> {
-    ghost free_inside = { λ d. ⟦<IntDecoder<'a, u8> as View<'a>>⟧.free_inside d.a };
+    ghost free_inside = { λ d. ⟦<IntDecoder<'a, u8> as HoldsData>⟧.free_inside d.a };
 
     fn new(alloc: Global) -> Self {
         OneDecoder {
-            a: View::new(alloc),
+            a: HoldsData::new(alloc),
         }
-    }
-
-    fn read(&mut self, input: &mut &'a [u8], k: usize, strict: bool) -> Result<bool> {
-        self.a.read(input, k, strict)
     }
 
     fn column_free(&self) -> ColumnFree {
         self.a.column_free()
+    }
+}
+
+impl<'a> View<'a> for OneDecoder<'a> {
+    fn read(&mut self, input: &mut &'a [u8], k: usize, strict: bool) -> Result<bool> {
+        self.a.read(input, k, strict)
     }
 }
 

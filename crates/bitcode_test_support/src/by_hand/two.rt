@@ -115,26 +115,16 @@ impl<'a> HoldsData for TwoDecoder<'a> {
 
     ghost owned = { λ d. variants_owned d.variants + ⟦<IntDecoder<'a, u8> as HoldsData>⟧.owned d.a
         + ⟦<IntDecoder<'a, i8> as HoldsData>⟧.owned d.b };
-}
 
-impl<'a> View<'a> for TwoDecoder<'a> {
-    ghost free_inside = { λ d. ⟦<IntDecoder<'a, u8> as View<'a>>⟧.free_inside d.a
-        + ⟦<IntDecoder<'a, i8> as View<'a>>⟧.free_inside d.b };
+    ghost free_inside = { λ d. ⟦<IntDecoder<'a, u8> as HoldsData>⟧.free_inside d.a
+        + ⟦<IntDecoder<'a, i8> as HoldsData>⟧.free_inside d.b };
 
     fn new(alloc: Global) -> Self {
         TwoDecoder {
             variants: VariantDecoder::new(alloc),
-            a: View::new(alloc),
-            b: View::new(alloc),
+            a: HoldsData::new(alloc),
+            b: HoldsData::new(alloc),
         }
-    }
-
-    fn read(&mut self, input: &mut &'a [u8], k: usize, strict: bool) -> Result<bool> {
-        let variants = self.variants.read(input, k, strict)?;
-        let a = self.a.read(input, self.variants.length(0), strict)?;
-        let b = self.b.read(input, self.variants.length(1), strict)?;
-        let first = both(variants, a);
-        Ok(both(first, b))
     }
 
     fn column_free(&self) -> ColumnFree {
@@ -143,6 +133,16 @@ impl<'a> View<'a> for TwoDecoder<'a> {
             has_entry: true,
             inside: self.a.column_free().inside.saturating_add(b.inside),
         }
+    }
+}
+
+impl<'a> View<'a> for TwoDecoder<'a> {
+    fn read(&mut self, input: &mut &'a [u8], k: usize, strict: bool) -> Result<bool> {
+        let variants = self.variants.read(input, k, strict)?;
+        let a = self.a.read(input, self.variants.length(0), strict)?;
+        let b = self.b.read(input, self.variants.length(1), strict)?;
+        let first = both(variants, a);
+        Ok(both(first, b))
     }
 }
 
