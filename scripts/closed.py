@@ -389,8 +389,8 @@ def still_of(item, life):
 # their own, so that room is not reserved for arrays inside them.
 AS_ARRAYS = {"Uuid", "Ipv4Addr", "Ipv6Addr", "IpAddr", "SocketAddrV4", "SocketAddrV6", "SocketAddr"}
 IN_LISTS = {
-    "Vec", "BoxedSlice", "RcSlice", "ArcSlice", "VecDeque", "LinkedList", "ArrayVec", "BinaryHeap", "BTreeSet", "HashSet",
-    "BTreeMap", "HashMap", "Option", "Result",
+    "Vec", "BoxedSlice", "RcSlice", "ArcSlice", "VecDeque", "LinkedList", "ArrayVec", "BinaryHeap", "BTreeSet",
+    "HashSet", "BTreeMap", "HashMap", "Option", "Result",
 }
 
 
@@ -410,10 +410,11 @@ def has_arrays(item, own):
     return any(may_overflow(field.type, own) for field in fields_of(item))
 
 
-def reserving(fields, own, shape, held, call):
-    """What `Buffer` says of too many arrays, the law of it, and how room is reserved: with that call if there may be some."""
-    if any(may_overflow(field.type, own) for field in fields):
-        return {"surely": f"SurelyOverflows {shape} (⟦<{held} as Buffer>⟧.columns e.fields) n", "law": "h", "reserve": call}
+def reserving(item, own, shape, held, call):
+    """What `Buffer` says of too many arrays, its law, and how room is reserved: with that call if there may be some."""
+    if has_arrays(item, own):
+        surely = f"SurelyOverflows {shape} (⟦<{held} as Buffer>⟧.columns e.fields) n"
+        return {"surely": surely, "law": "h", "reserve": call}
     return {"surely": "⊥", "law": "absurd h", "reserve": "self.fields.reserve(n)"}
 
 
@@ -429,7 +430,7 @@ def encoder_text(item, own, free, name, life, shaped, fields):
         "shaped": shaped,
         "free": free,
     }
-    row |= reserving(fields_of(item), own, shape, held, f"reserve_as::<{item.name}{still}, _>(&mut self.fields, n)")
+    row |= reserving(item, own, shape, held, f"reserve_as::<{item.name}{still}, _>(&mut self.fields, n)")
     alias = f"type Held{fields.removeprefix('Fields')} = StructEncoder<{fields}>;\n\n"
     return alias + Template(HOLDER + ENCODER).substitute(row)
 
@@ -462,7 +463,8 @@ def part_encoder_text(part, own, number, struct, life, free, lists, types, numbe
         "free": free,
         "lists": lists,
     }
-    row |= reserving(part.fields, own, shape, held + still, f"reserve_part::<{whole_still}, {names}, _>(&mut self.fields, n)")
+    call = f"reserve_part::<{whole_still}, {names}, _>(&mut self.fields, n)"
+    row |= reserving(part, own, shape, held + still, call)
     aliases = f"type {pairs}{of} = {types};\n\ntype {held}{of} = <{pairs}{of} as HasEncoder>::Encoder;\n\n"
     return aliases + f"type {names} = {numbers};\n\n" + Template(HOLDER + PART).substitute(row)
 
@@ -486,8 +488,9 @@ def reads_one(type, own):
         return each_reads_one([field.type for field in fields_of(item)], inside_of(type, own))
     if type.kind == "array" or type.name == "Vec":
         inner = type.parts[0]
-        one = inner.kind == "path" and inner.name not in own and inner.name in IN_READ_LISTS
-        return one or (None if inner.kind == "path" and inner.name not in own and inner.name not in ("Option", "Vec") else False)
+        if inner.kind != "path" or inner.name in own or inner.name in ("Option", "Vec"):
+            return False
+        return True if inner.name in IN_READ_LISTS else None
     if type.kind == "tuple" and type.parts or type.name in ("Option", "Result"):
         return each_reads_one(type.parts, own)
     return True if type.kind == "path" and type.name in READ_ONE else None
@@ -505,8 +508,7 @@ def item_reads_one(item, own):
 
 
 def decoder_text(simple, name, input, decoder, one, data="Data"):
-    """The decoder of the type, which holds that one. It may read one value without a decoder, as that one does: `one` says
-    whether that one does so."""
+    """The decoder of the type, which holds that one. `one` tells whether that one reads one value without a decoder."""
     row = {"simple": simple, "name": name, "input": input, "data": data}
     row["answer"] = "true" if one else Template("<$data<$input> as Decoder<$name>>::reads_one()").substitute(row)
     one = "" if one is False else Template(READS_ONE).substitute(row)

@@ -355,7 +355,9 @@ def tuple_text(item, imports, own, lent, **row):
     is_closed = closed.is_closed(item, own)
     coders = {closed.NEEDED} if is_closed else {"bitcode::coder::{ColumnFree, Decoder, HoldsData, View}"} if apart else ()
     imports = {*imports, "std::alloc::Global", *coders}
-    stated = (["ReadsValue"] if is_closed and closed.item_reads_one(item, own) is not False else []) + (["SurelyOverflows"] if is_closed and closed.has_arrays(item, own) else [])
+    reads_one = is_closed and closed.item_reads_one(item, own) is not False
+    stated = ["ReadsValue"] if reads_one else []
+    stated += ["SurelyOverflows"] if is_closed and closed.has_arrays(item, own) else []
     by_hand = [*stated, "columns_alike", "data_as", "field_alike", *(["pair_alike"] if len(fields) > 1 else []), "refl"]
     operators, more = closed_head(item, own)
     used |= more

@@ -1,5 +1,6 @@
 //! Values that are written in chunks and one by one, and columns that are collected into bytes of their own.
 use bitcode::coder::{Buffer as _, write_length, write_one};
+use bitcode::own::{Nth, reserve_as, reserve_part};
 use bitcode::{
     BoolEncoder, Encoder, IntEncoder, LengthEncoder, MAX_VECTORED_CHUNK, TupleEncoder,
     VariantEncoder,
@@ -14,6 +15,20 @@ fn one_value_is_a_chunk(rt: HostRuntime) -> Result<(), Fail> {
     encoder.encode_vectored(&[&(true, 7u16)])?;
     assert_eq!(rt; encoder.collect(alloc)?.as_slice(), [1, 7, 0].as_slice());
     assert_eq!(rt; encoder.collect(alloc)?.len(), 0);
+    Ok(())
+}
+
+#[test]
+fn room_is_reserved_for_a_type_and_for_a_part_of_it(rt: HostRuntime) -> Result<(), Fail> {
+    let alloc = rt.alloc();
+    let mut pair: TupleEncoder<BoolEncoder, IntEncoder<u16>> = TupleEncoder::new(alloc);
+    reserve_as::<(bool, u16), _>(&mut pair, 1)?;
+    pair.encode(&(true, 7u16))?;
+    assert_eq!(rt; pair.collect(alloc)?.as_slice(), [1, 7, 0].as_slice());
+    let mut flags = BoolEncoder::new(alloc);
+    reserve_part::<(bool, u16, u8), Nth<0>, _>(&mut flags, 2)?;
+    flags.encode_slice(&[false, true])?;
+    assert_eq!(rt; flags.collect(alloc)?.as_slice(), [2].as_slice());
     Ok(())
 }
 
