@@ -120,7 +120,7 @@ impl<'a> HoldsData for VariantDecoder<'a> {
 }
 
 impl<'a> View<'a> for VariantDecoder<'a> {
-    ghost use Rattle.bitcode_serde.specs.Indices.{indices_left, indices_owned, index_count};
+    ghost use Rattle.bitcode_serde.specs.Indices.{indices_left, index_count};
 
     /// Reads `k` indices from the front of the input, and counts them.
     ///
