@@ -43,7 +43,7 @@ WEIGHTS = {
     "SocketAddrV6": 6,
 }
 # What `use` lines bring in for coders of one's own.
-NEEDED = "bitcode::coder::{Buffer, ColumnFree, Decoder, Encoder, HoldsData, View}"
+NEEDED = "bitcode::coder::{Buffer, ColumnFree, Decoder, Encoder, HoldsData, NewDecoder, View}"
 
 # The columns of an encoder, which are those of the encoder that it forwards to.
 HOLDER = """/// The columns of `$simple`.
@@ -154,9 +154,11 @@ impl<$input> HoldsData for ${simple}Decoder<$input> {
     ghost owned = { λ d. ⟦<$data<$input> as HoldsData>⟧.owned d.fields };
 
     ghost free_inside = { λ d. ⟦<$data<$input> as HoldsData>⟧.free_inside d.fields };
+}
 
+impl<$input> NewDecoder for ${simple}Decoder<$input> {
     fn new(alloc: Global) -> Self {
-        ${simple}Decoder { fields: HoldsData::new(alloc) }
+        ${simple}Decoder { fields: NewDecoder::new(alloc) }
     }
 
     fn column_free(&self) -> ColumnFree {

@@ -164,7 +164,7 @@ class Generic(Numbered):
         """What is written of the coders that are parameters."""
         (encoders, es), ds = self.encoders_of(), self.letters(self.count, "D", "P", "R")
         shaped = ", ".join(f"{name}: Shaped" for name in self.enum.types)
-        decoding = [f"{name}: View<{self.input}> + Decoder<{type}>" for name, type in zip(ds, self.types)]
+        decoding = [f"{name}: NewDecoder + View<{self.input}> + Decoder<{type}>" for name, type in zip(ds, self.types)]
         return {
             "shaped": shaped,
             "es": ", ".join(name for name, _ in es),
@@ -191,7 +191,7 @@ class Generic(Numbered):
         used |= {f"{kind}{count}" for kind in ("Decoders", "Encoders", "OneOf", "Variants")}
         used |= {"TupleEncoder"} if any(len(variant.fields) > 1 for variant in enum.variants) else set()
         uses = {f"use bitcode::{{{', '.join(sorted(used))}}};", *(f"use {path};" for path in imports)}
-        uses.add("use bitcode::coder::{Buffer, Decoder, Encoder, View};")
+        uses.add("use bitcode::coder::{Buffer, Decoder, Encoder, NewDecoder, View};")
         row = self.of_group(self.groups[0]) | {"types": ", ".join(enum.types)}
         row |= {"simple": enum.name, "count": count, "input": self.input, "arguments": arguments(enum)}
         row |= {"has_encoder": bounds(enum, "HasEncoder"), "owned": bounds(enum, "DecodeOwned")}

@@ -96,9 +96,11 @@ impl<$input> HoldsData for $apart<$input> {
     ghost owned = { λ d. ⟦<$inner as HoldsData>⟧.owned d.field };
 
     ghost free_inside = { λ d. ⟦<$inner as HoldsData>⟧.free_inside d.field };
+}
 
+impl<$input> NewDecoder for $apart<$input> {
     fn new(alloc: Global) -> Self {
-        $apart { field: HoldsData::new(alloc) }
+        $apart { field: NewDecoder::new(alloc) }
     }
 
     fn column_free(&self) -> ColumnFree {
@@ -353,7 +355,7 @@ def tuple_text(item, imports, own, lent, **row):
     type_of_decoder, apart = decoder(item, own, input, alias if is_long else parts)
     used |= {"ConvertFromDecoder", "TupleDecoder"} if apart else {"DecoderOfFields"}
     is_closed = closed.is_closed(item, own)
-    coders = {closed.NEEDED} if is_closed else {"bitcode::coder::{ColumnFree, Decoder, HoldsData, View}"} if apart else ()
+    coders = {closed.NEEDED} if is_closed else {"bitcode::coder::{ColumnFree, Decoder, HoldsData, NewDecoder, View}"} if apart else ()
     imports = {*imports, "std::alloc::Global", *coders}
     reads_one = is_closed and closed.item_reads_one(item, own) is not False
     stated = ["ReadsValue"] if reads_one else []

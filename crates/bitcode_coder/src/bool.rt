@@ -14,7 +14,7 @@ ghost use Rattle.bitcode_coder.specs.Coder.{IsReadingRefusal};
 ghost use Rattle.bitcode_coder.specs.FirstFault.{IsFirstFault};
 ghost use Rattle.bitcode_coder.specs.Strict.{JudgesData};
 
-use crate::coder::{Buffer, Decoder, Encoder, HoldsData, View};
+use crate::coder::{Buffer, Decoder, Encoder, HoldsData, NewDecoder, View};
 use crate::column_free::ColumnFree;
 use crate::part::Part;
 use bitcode_columns::pack::pack_bools;
@@ -135,7 +135,9 @@ impl<'a> HoldsData for BoolDecoder<'a> {
     ghost owned = { λ d. cow_owned d.values };
 
     ghost free_inside = { λ d. 0 };
+}
 
+impl<'a> NewDecoder for BoolDecoder<'a> {
     fn new(alloc: Global) -> Self {
         BoolDecoder {
             alloc,

@@ -254,10 +254,10 @@ pub trait Encoder<T: Shaped>: Buffer {
         → SurelyOverflows T.data.shape (Self.columns e) n };
 }
 
-/// The data of a decoder.
+/// The data of a decoder, in terms of which the contracts of [`NewDecoder`], [`View`] and [`Decoder`] are stated.
 ///
-/// The contracts of [`View`] and [`Decoder`] are stated in terms of these data. Functions that need no lifetime are
-/// here, since the checker takes several times as long for a call through a trait with a lifetime.
+/// It has no functions, since each function of a supertrait makes the checker take longer for each call through the
+/// traits below it.
 pub trait HoldsData {
     ghost shape: { Shape };
 
@@ -269,7 +269,11 @@ pub trait HoldsData {
 
     // how many elements without columns are inside the data that were read
     ghost free_inside: { Self → ℕ };
+}
 
+/// A decoder that is made without an input. These functions are not in [`View`], since the checker takes several times
+/// as long for a call through a trait with a lifetime.
+pub trait NewDecoder: HoldsData {
     /// Creates an empty decoder without allocating.
     fn new(alloc: Global) -> Self
         ensures held { Self.held result ≡ [] }
@@ -277,8 +281,8 @@ pub trait HoldsData {
 
     /// Tells how many elements without columns are inside the data that were read. It makes no value.
     fn column_free(&self) -> ColumnFree
-        ensures has_entry { result.has_entry ≡ has_entry shape }
-        ensures inside { result.inside ≡ saturated (free_inside self.now) };
+        ensures has_entry { result.has_entry ≡ has_entry Self.shape }
+        ensures inside { result.inside ≡ saturated (Self.free_inside self.now) };
 }
 
 /// Combines the answers of two parts that were read one after the other.

@@ -2,7 +2,7 @@
 ghost use Rattle.std.specs.Prelude.{IfSome};
 ghost use Rattle.bitcode_coder.specs.Coder.{ReadsValue, ReadsValues};
 
-use crate::coder::{Decoder, View};
+use crate::coder::{Decoder, NewDecoder, View};
 use bitcode_shapes::shaped::Shaped;
 use std::alloc::Global;
 
@@ -16,7 +16,7 @@ use std::alloc::Global;
 /// assert!(rt; first == Some(7) && input.len() == 1);
 /// ```
 #[inline(always)]
-pub fn one_by_decoder<'a, T: Shaped, D: View<'a> + Decoder<T> + Drop>(
+pub fn one_by_decoder<'a, T: Shaped, D: NewDecoder + View<'a> + Decoder<T> + Drop>(
     alloc: Global,
     input: &mut &'a [u8],
 ) -> Option<T>
@@ -42,7 +42,7 @@ pub fn one_by_decoder<'a, T: Shaped, D: View<'a> + Decoder<T> + Drop>(
 /// let both: Option<Vec<u8>> = list_by_decoder::<u8, U8Decoder>(alloc, &mut input, 2);
 /// assert!(rt; both.is_some() && input.is_empty());
 /// ```
-pub fn list_by_decoder<'a, T: Shaped + Drop, D: View<'a> + Decoder<T> + Drop>(
+pub fn list_by_decoder<'a, T: Shaped + Drop, D: NewDecoder + View<'a> + Decoder<T> + Drop>(
     alloc: Global,
     input: &mut &'a [u8],
     count: usize,

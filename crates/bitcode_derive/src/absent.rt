@@ -6,7 +6,7 @@ ghost use Rattle.bitcode_coder.specs.Columns.{no_columns};
 ghost use Rattle.bitcode_coder.specs.Coder.{endless_room};
 
 use crate::derive::{DecodeOwned, HasDecoder, HasEncoder};
-use bitcode_coder::coder::{Buffer, Decoder, Encoder, HoldsData, View};
+use bitcode_coder::coder::{Buffer, Decoder, Encoder, HoldsData, NewDecoder, View};
 use bitcode_coder::column_free::ColumnFree;
 use bitcode_memory::error::{Error, Reason};
 use bitcode_memory::refuse::err;
@@ -80,7 +80,9 @@ impl HoldsData for AbsentDecoder {
     ghost owned = { λ d. 0 };
 
     ghost free_inside = { λ d. 0 };
+}
 
+impl NewDecoder for AbsentDecoder {
     fn new(_alloc: Global) -> Self {
         AbsentDecoder { left: 0 }
     }

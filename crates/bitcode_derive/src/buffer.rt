@@ -8,7 +8,7 @@ ghost use Rattle.bitcode_derive.specs.Whole.{IsBoundedByBytes, NamesWholeFault};
 
 use crate::derive::{HasDecoder, HasEncoder};
 use crate::whole;
-use bitcode_coder::coder::{Buffer as EncoderBuffer, Decoder, Encoder, View};
+use bitcode_coder::coder::{Buffer as EncoderBuffer, Decoder, Encoder, NewDecoder, View};
 use bitcode_coder::one::write_one;
 use bitcode_memory::error::{Error, Reason};
 use bitcode_shapes::shaped::Shaped;
@@ -79,7 +79,7 @@ where
     pub fn decode<'a>(&mut self, bytes: &'a [u8]) -> Result<T, Error>
     where
         T: HasDecoder<'a> + Shaped + Drop,
-        T::Decoder: View<'a> + Decoder<T> + Drop,
+        T::Decoder: NewDecoder + View<'a> + Decoder<T> + Drop,
         ensures found { IfOk result (λ t. IsDecodingOf T.data.makes T.data.shape bytes.now t) }
         ensures unambiguous { SpellsAtMostOne T.data.shape bytes.now }
         ensures bounded { IsBoundedByBytes T.data.shape bytes.now }
@@ -105,7 +105,7 @@ where
     pub fn decode_strict<'a>(&mut self, bytes: &'a [u8]) -> Result<T, Error>
     where
         T: HasDecoder<'a> + Shaped + Drop,
-        T::Decoder: View<'a> + Decoder<T> + Drop,
+        T::Decoder: NewDecoder + View<'a> + Decoder<T> + Drop,
         ensures found { IfOk result
             (λ t. IsStrictDecodingOf T.data.makes T.data.shape bytes.now t) }
         ensures unambiguous { SpellsAtMostOne T.data.shape bytes.now }

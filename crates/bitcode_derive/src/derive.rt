@@ -1,5 +1,5 @@
 //! The types with encoders and decoders.
-use bitcode_coder::coder::{Buffer, Decoder, Encoder, View};
+use bitcode_coder::coder::{Buffer, Decoder, Encoder, NewDecoder, View};
 use bitcode_shapes::shaped::Shaped;
 
 /// Names the encoder of a type.
@@ -44,11 +44,11 @@ pub trait HasDecoder<'a> {
 /// A type that can be decoded from an input that outlives `'a`: every lawful type whose decoder makes its values.
 ///
 /// It has no impls of its own. The calls that decode whole values drop the value and the remaining data.
-pub trait Decode<'a>: HasDecoder<'a, Decoder: View<'a> + Decoder<Self> + Drop> + Shaped + Drop {}
+pub trait Decode<'a>: HasDecoder<'a, Decoder: NewDecoder + View<'a> + Decoder<Self> + Drop> + Shaped + Drop {}
 
 impl<'a, T: HasDecoder<'a> + Shaped + Drop> Decode<'a> for T
 where
-    T::Decoder: View<'a> + Decoder<T> + Drop,
+    T::Decoder: NewDecoder + View<'a> + Decoder<T> + Drop,
 {}
 
 /// A type whose values borrow nothing from the input. Its `'static` bound excludes every type that borrows for less

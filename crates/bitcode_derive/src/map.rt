@@ -10,7 +10,7 @@ ghost use Rattle.bitcode_coder.specs.Columns.{lengths, one, two};
 ghost use Rattle.bitcode_coder.specs.Length.{written_lengths, length_room, length_capacity, lengths_sum};
 ghost use Rattle.bitcode_coder.specs.Spelling.{natural};
 
-use bitcode_coder::coder::{Buffer, Decoder, Encoder, HoldsData, View};
+use bitcode_coder::coder::{Buffer, Decoder, Encoder, HoldsData, NewDecoder, View};
 use bitcode_coder::column_free::ColumnFree;
 use bitcode_coder::length::LengthEncoder;
 use bitcode_memory::error::{Error, Reason};
@@ -122,7 +122,9 @@ impl<'a, K: HoldsData, V: HoldsData> HoldsData for MapDecoder<'a, K, V> {
 
     ghost free_inside = { λ d. count_if_free (has_entry K.shape) (lengths_sum d.entries.lengths)
         + (K.free_inside d.entries.elements.first + V.free_inside d.entries.elements.second) };
+}
 
+impl<'a, K: NewDecoder, V: NewDecoder> NewDecoder for MapDecoder<'a, K, V> {
     fn new(alloc: Global) -> Self {
         MapDecoder {
             entries: VecDecoder::new(alloc),

@@ -12,7 +12,7 @@ ghost use Rattle.bitcode_derive.specs.Whole.{IsBoundedByBytes, NamesWholeFault};
 ghost use Rattle.bitcode_derive.specs.Within.{IsDecodingWithin, IsRefusalWithin, NamesFaultWithin};
 
 use crate::derive::{HasDecoder, HasEncoder};
-use bitcode_coder::coder::{Buffer, Decoder, Encoder, HoldsData, View};
+use bitcode_coder::coder::{Buffer, Decoder, Encoder, NewDecoder, View};
 use bitcode_coder::one::write_one;
 use bitcode_memory::consume::expect_eof;
 use bitcode_memory::error::{Error, Reason};
@@ -117,7 +117,7 @@ pub fn decode<'a, T: HasDecoder<'a> + Shaped + Drop>(
     bytes: &'a [u8],
 ) -> Result<T, Error>
 where
-    T::Decoder: View<'a> + Decoder<T> + Drop,
+    T::Decoder: NewDecoder + View<'a> + Decoder<T> + Drop,
     ensures found { IfOk result (λ t. IsDecodingOf T.data.makes T.data.shape bytes.now t) }
     ensures unambiguous { SpellsAtMostOne T.data.shape bytes.now }
     ensures bounded { IsBoundedByBytes T.data.shape bytes.now }
@@ -160,7 +160,7 @@ pub fn decode_within<'a, T: HasDecoder<'a> + Shaped + Drop>(
     most: usize,
 ) -> Result<T, Error>
 where
-    T::Decoder: View<'a> + Decoder<T> + Drop,
+    T::Decoder: NewDecoder + View<'a> + Decoder<T> + Drop,
     ensures found { IfOk result (λ t. IsDecodingWithin most T.data.makes T.data.shape bytes.now t) }
     ensures unambiguous { SpellsAtMostOne T.data.shape bytes.now }
     ensures bounded { IsBoundedByBytes T.data.shape bytes.now }
@@ -195,7 +195,7 @@ pub fn decode_strict<'a, T: HasDecoder<'a> + Shaped + Drop>(
     bytes: &'a [u8],
 ) -> Result<T, Error>
 where
-    T::Decoder: View<'a> + Decoder<T> + Drop,
+    T::Decoder: NewDecoder + View<'a> + Decoder<T> + Drop,
     ensures found { IfOk result (λ t. IsStrictDecodingOf T.data.makes T.data.shape bytes.now t) }
     ensures unambiguous { SpellsAtMostOne T.data.shape bytes.now }
     ensures bounded { IsBoundedByBytes T.data.shape bytes.now }
@@ -235,7 +235,7 @@ pub fn decode_front<'a, T: HasDecoder<'a> + Shaped + Drop>(
     input: &mut &'a [u8],
 ) -> Result<T, Error>
 where
-    T::Decoder: View<'a> + Decoder<T> + Drop,
+    T::Decoder: NewDecoder + View<'a> + Decoder<T> + Drop,
     ensures found { IfOk result
         (λ t. IsDecodingOfFront T.data.makes T.data.shape input.old.now t input.new.now) }
     ensures unambiguous { BeginsWithAtMostOne T.data.shape input.old.now }
@@ -277,7 +277,7 @@ pub fn decode_front_strict<'a, T: HasDecoder<'a> + Shaped + Drop>(
     input: &mut &'a [u8],
 ) -> Result<T, Error>
 where
-    T::Decoder: View<'a> + Decoder<T> + Drop,
+    T::Decoder: NewDecoder + View<'a> + Decoder<T> + Drop,
     ensures found { IfOk result
         (λ t. IsStrictDecodingOfFront T.data.makes T.data.shape input.old.now t input.new.now) }
     ensures unambiguous { BeginsWithAtMostOne T.data.shape input.old.now }

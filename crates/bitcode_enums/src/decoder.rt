@@ -10,7 +10,7 @@ ghost use Rattle.bitcode_parts.specs.Variants.{variants_left, variants_owned};
 use crate::enums::{Enum, EnumOf};
 use crate::number::At;
 use crate::payloads::VariantPayloads;
-use bitcode_coder::coder::{Decoder, HoldsData, View, both};
+use bitcode_coder::coder::{Decoder, HoldsData, NewDecoder, View, both};
 use bitcode_coder::column_free::ColumnFree;
 use bitcode_memory::error::Error;
 use bitcode_parts::choices::variant::VariantDecoder;
@@ -49,7 +49,10 @@ impl<'a, const N: usize, T: EnumOf<N>, D: VariantPayloads<'a, At<0>, At<N>, T>> 
     ghost owned = { λ d. variants_owned d.variants + D.held.owned d.payloads };
 
     ghost free_inside = { λ d. d.free };
+}
 
+impl<'a, const N: usize, T: EnumOf<N>, D: VariantPayloads<'a, At<0>, At<N>, T>> NewDecoder
+    for EnumDecoder<'a, N, T, D> {
     fn new(alloc: Global) -> Self {
         EnumDecoder {
             variants: VariantDecoder::new(alloc),

@@ -14,7 +14,7 @@ ghost use Rattle.bitcode_enums.specs.ByNumber.{shape_at, KeepsOthers};
 
 use crate::enums::Enum;
 use crate::number::VariantNumber;
-use bitcode_coder::coder::View;
+use bitcode_coder::coder::{NewDecoder, View};
 use bitcode_memory::error::{Error, Reason};
 use std::alloc::Global;
 
@@ -30,7 +30,7 @@ use std::alloc::Global;
 /// read_and_count(&mut flags, &mut input, 1, false, &mut free)?;
 /// assert_eq!(rt; free, 0);
 /// ```
-pub fn read_and_count<'a, D: View<'a>>(
+pub fn read_and_count<'a, D: NewDecoder + View<'a>>(
     decoder: &mut D,
     input: &mut &'a [u8],
     k: usize,

@@ -14,7 +14,7 @@ ghost use Rattle.bitcode_coder.specs.FirstFault.{IsFirstFault};
 ghost use Rattle.bitcode_coder.specs.Strict.{JudgesData};
 ghost use Rattle.bitcode_floats.specs.Floats.{data_of_floats, data_of_bits};
 
-use bitcode_coder::coder::{Buffer, Decoder, Encoder, HoldsData, View};
+use bitcode_coder::coder::{Buffer, Decoder, Encoder, HoldsData, NewDecoder, View};
 use bitcode_coder::column_free::ColumnFree;
 use bitcode_coder::part::Part;
 use bitcode_float_columns::split::{SplitBits, pack_f32s, read_f32s};
@@ -142,7 +142,9 @@ impl<'a> HoldsData for F32Decoder<'a> {
     ghost owned = { λ d. 0 };
 
     ghost free_inside = { λ d. 0 };
+}
 
+impl<'a> NewDecoder for F32Decoder<'a> {
     fn new(_alloc: Global) -> Self {
         F32Decoder {
             bits: SplitBits::new(),

@@ -15,7 +15,7 @@ ghost use Rattle.bitcode_coder.specs.Strict.{JudgesData};
 ghost use Rattle.bitcode_floats.specs.Floats.{data_of_bits, long_bits, residue_of};
 
 use crate::direct::{keep_whole_width, write_whole};
-use bitcode_coder::coder::{Buffer, Decoder, Encoder, HoldsData, View, both};
+use bitcode_coder::coder::{Buffer, Decoder, Encoder, HoldsData, NewDecoder, View, both};
 use bitcode_coder::column_free::ColumnFree;
 use bitcode_coder::part::{Itself, Part};
 use bitcode_float_columns::bits::{bits_of_f64s, is_canonical_f64};
@@ -218,7 +218,9 @@ impl<'a> HoldsData for F64Decoder<'a> {
     ghost owned = { λ d. cow_owned d.values };
 
     ghost free_inside = { λ d. 0 };
+}
 
+impl<'a> NewDecoder for F64Decoder<'a> {
     fn new(alloc: Global) -> Self {
         F64Decoder {
             alloc,

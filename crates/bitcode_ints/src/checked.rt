@@ -10,7 +10,7 @@ ghost use Rattle.bitcode_coder.specs.Coder.{ReadsValue};
 ghost use Rattle.bitcode_ints.specs.CheckedColumn.{numbers_of, checked_data};
 
 use crate::int::Integer;
-use bitcode_coder::coder::{Decoder, HoldsData, View};
+use bitcode_coder::coder::{Decoder, HoldsData, NewDecoder, View};
 use bitcode_coder::column_free::ColumnFree;
 use bitcode_int_columns::column_int::ColumnInt;
 use bitcode_memory::error::{Error, Reason};
@@ -75,7 +75,9 @@ impl<'a, C: Checked<I>, I: ColumnInt> HoldsData for CheckedIntDecoder<'a, C, I> 
     ghost owned = { λ d. cow_owned d.values };
 
     ghost free_inside = { λ d. 0 };
+}
 
+impl<'a, C: Checked<I>, I: ColumnInt> NewDecoder for CheckedIntDecoder<'a, C, I> {
     fn new(alloc: Global) -> Self {
         CheckedIntDecoder {
             alloc,

@@ -18,7 +18,7 @@ ghost use Rattle.bitcode_coder.specs.ColumnFree.{free_count, saturated};
 ghost use Rattle.bitcode_coder.specs.Strict.{JudgesData};
 ghost use Rattle.bitcode_ints.specs.Int.{int_data, bytes_data, PushesInts, WritesInts, ReadsInt};
 
-use bitcode_coder::coder::{Buffer, Decoder, Encoder, HoldsData, View};
+use bitcode_coder::coder::{Buffer, Decoder, Encoder, HoldsData, NewDecoder, View};
 use bitcode_coder::column_free::ColumnFree;
 use bitcode_coder::part::Part;
 use bitcode_int_columns::column_int::ColumnInt;
@@ -321,7 +321,9 @@ impl<'a, T: ColumnInt> HoldsData for IntDecoder<'a, T> {
     ghost owned = { λ d. cow_owned d.values };
 
     ghost free_inside = { λ d. 0 };
+}
 
+impl<'a, T: ColumnInt> NewDecoder for IntDecoder<'a, T> {
     fn new(alloc: Global) -> Self {
         IntDecoder {
             alloc,

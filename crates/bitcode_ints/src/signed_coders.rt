@@ -4,7 +4,7 @@ ghost use Rattle.std.specs.Prelude.{refl, IfSome};
 ghost use Rattle.bitcode_coder.specs.Coder.{ReadsValue, ReadsValues};
 
 use crate::int::{IntDecoder, IntEncoder};
-use bitcode_coder::coder::{Buffer, Decoder, Encoder, HoldsData, View};
+use bitcode_coder::coder::{Buffer, Decoder, Encoder, HoldsData, NewDecoder, View};
 use bitcode_coder::column_free::ColumnFree;
 use bitcode_coder::direct::{list_by_decoder, one_by_decoder};
 use bitcode_coder::part::Part;
@@ -112,10 +112,12 @@ impl<'a> HoldsData for I8Decoder<'a> {
     ghost owned = { λ d. ⟦<IntDecoder<'a, i8> as HoldsData>⟧.owned d.column };
 
     ghost free_inside = { λ d. 0 };
+}
 
+impl<'a> NewDecoder for I8Decoder<'a> {
     fn new(alloc: Global) -> Self {
         I8Decoder {
-            column: HoldsData::new(alloc),
+            column: NewDecoder::new(alloc),
         }
     }
 
@@ -268,10 +270,12 @@ impl<'a> HoldsData for I16Decoder<'a> {
     ghost owned = { λ d. ⟦<IntDecoder<'a, i16> as HoldsData>⟧.owned d.column };
 
     ghost free_inside = { λ d. 0 };
+}
 
+impl<'a> NewDecoder for I16Decoder<'a> {
     fn new(alloc: Global) -> Self {
         I16Decoder {
-            column: HoldsData::new(alloc),
+            column: NewDecoder::new(alloc),
         }
     }
 
@@ -424,10 +428,12 @@ impl<'a> HoldsData for I32Decoder<'a> {
     ghost owned = { λ d. ⟦<IntDecoder<'a, i32> as HoldsData>⟧.owned d.column };
 
     ghost free_inside = { λ d. 0 };
+}
 
+impl<'a> NewDecoder for I32Decoder<'a> {
     fn new(alloc: Global) -> Self {
         I32Decoder {
-            column: HoldsData::new(alloc),
+            column: NewDecoder::new(alloc),
         }
     }
 
@@ -580,10 +586,12 @@ impl<'a> HoldsData for I64Decoder<'a> {
     ghost owned = { λ d. ⟦<IntDecoder<'a, i64> as HoldsData>⟧.owned d.column };
 
     ghost free_inside = { λ d. 0 };
+}
 
+impl<'a> NewDecoder for I64Decoder<'a> {
     fn new(alloc: Global) -> Self {
         I64Decoder {
-            column: HoldsData::new(alloc),
+            column: NewDecoder::new(alloc),
         }
     }
 
@@ -736,10 +744,12 @@ impl<'a> HoldsData for I128Decoder<'a> {
     ghost owned = { λ d. ⟦<IntDecoder<'a, i128> as HoldsData>⟧.owned d.column };
 
     ghost free_inside = { λ d. 0 };
+}
 
+impl<'a> NewDecoder for I128Decoder<'a> {
     fn new(alloc: Global) -> Self {
         I128Decoder {
-            column: HoldsData::new(alloc),
+            column: NewDecoder::new(alloc),
         }
     }
 
@@ -892,10 +902,12 @@ impl<'a> HoldsData for IsizeDecoder<'a> {
     ghost owned = { λ d. ⟦<IntDecoder<'a, isize> as HoldsData>⟧.owned d.column };
 
     ghost free_inside = { λ d. 0 };
+}
 
+impl<'a> NewDecoder for IsizeDecoder<'a> {
     fn new(alloc: Global) -> Self {
         IsizeDecoder {
-            column: HoldsData::new(alloc),
+            column: NewDecoder::new(alloc),
         }
     }
 

@@ -4,7 +4,7 @@ ghost use Rattle.std.specs.Prelude.{refl, IfSome};
 ghost use Rattle.bitcode_coder.specs.Coder.{ReadsValue, ReadsValues};
 
 use crate::int::{IntDecoder, IntEncoder};
-use bitcode_coder::coder::{Buffer, Decoder, Encoder, HoldsData, View};
+use bitcode_coder::coder::{Buffer, Decoder, Encoder, HoldsData, NewDecoder, View};
 use bitcode_coder::column_free::ColumnFree;
 use bitcode_coder::direct::{list_by_decoder, one_by_decoder};
 use bitcode_coder::part::Part;
@@ -112,10 +112,12 @@ impl<'a> HoldsData for U8Decoder<'a> {
     ghost owned = { λ d. ⟦<IntDecoder<'a, u8> as HoldsData>⟧.owned d.column };
 
     ghost free_inside = { λ d. 0 };
+}
 
+impl<'a> NewDecoder for U8Decoder<'a> {
     fn new(alloc: Global) -> Self {
         U8Decoder {
-            column: HoldsData::new(alloc),
+            column: NewDecoder::new(alloc),
         }
     }
 
@@ -268,10 +270,12 @@ impl<'a> HoldsData for U16Decoder<'a> {
     ghost owned = { λ d. ⟦<IntDecoder<'a, u16> as HoldsData>⟧.owned d.column };
 
     ghost free_inside = { λ d. 0 };
+}
 
+impl<'a> NewDecoder for U16Decoder<'a> {
     fn new(alloc: Global) -> Self {
         U16Decoder {
-            column: HoldsData::new(alloc),
+            column: NewDecoder::new(alloc),
         }
     }
 
@@ -424,10 +428,12 @@ impl<'a> HoldsData for U32Decoder<'a> {
     ghost owned = { λ d. ⟦<IntDecoder<'a, u32> as HoldsData>⟧.owned d.column };
 
     ghost free_inside = { λ d. 0 };
+}
 
+impl<'a> NewDecoder for U32Decoder<'a> {
     fn new(alloc: Global) -> Self {
         U32Decoder {
-            column: HoldsData::new(alloc),
+            column: NewDecoder::new(alloc),
         }
     }
 
@@ -580,10 +586,12 @@ impl<'a> HoldsData for U64Decoder<'a> {
     ghost owned = { λ d. ⟦<IntDecoder<'a, u64> as HoldsData>⟧.owned d.column };
 
     ghost free_inside = { λ d. 0 };
+}
 
+impl<'a> NewDecoder for U64Decoder<'a> {
     fn new(alloc: Global) -> Self {
         U64Decoder {
-            column: HoldsData::new(alloc),
+            column: NewDecoder::new(alloc),
         }
     }
 
@@ -736,10 +744,12 @@ impl<'a> HoldsData for U128Decoder<'a> {
     ghost owned = { λ d. ⟦<IntDecoder<'a, u128> as HoldsData>⟧.owned d.column };
 
     ghost free_inside = { λ d. 0 };
+}
 
+impl<'a> NewDecoder for U128Decoder<'a> {
     fn new(alloc: Global) -> Self {
         U128Decoder {
-            column: HoldsData::new(alloc),
+            column: NewDecoder::new(alloc),
         }
     }
 
@@ -892,10 +902,12 @@ impl<'a> HoldsData for UsizeDecoder<'a> {
     ghost owned = { λ d. ⟦<IntDecoder<'a, usize> as HoldsData>⟧.owned d.column };
 
     ghost free_inside = { λ d. 0 };
+}
 
+impl<'a> NewDecoder for UsizeDecoder<'a> {
     fn new(alloc: Global) -> Self {
         UsizeDecoder {
-            column: HoldsData::new(alloc),
+            column: NewDecoder::new(alloc),
         }
     }
 

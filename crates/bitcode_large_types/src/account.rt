@@ -5,7 +5,7 @@ ghost use Rattle.bitcode.specs.ByHand.{columns_alike, data_as, field_alike, list
 
 use crate::home::Home;
 use crate::trophy::Trophy;
-use bitcode::coder::{Buffer, ColumnFree, Decoder, Encoder, HoldsData, View};
+use bitcode::coder::{Buffer, ColumnFree, Decoder, Encoder, HoldsData, NewDecoder, View};
 use bitcode::own::{DecoderOfFields, HasField, InFields, Nth, Part, PartEncoder, StructEncoder};
 use bitcode::{ConvertFrom, Error, HasDecoder, HasEncoder, Shaped, TupleEncoder};
 use std::alloc::Global;
@@ -91,10 +91,12 @@ impl<'a> HoldsData for AccountPart0Decoder<'a> {
     ghost owned = { λ d. ⟦<Data0<'a> as HoldsData>⟧.owned d.fields };
 
     ghost free_inside = { λ d. ⟦<Data0<'a> as HoldsData>⟧.free_inside d.fields };
+}
 
+impl<'a> NewDecoder for AccountPart0Decoder<'a> {
     fn new(alloc: Global) -> Self {
         AccountPart0Decoder {
-            fields: HoldsData::new(alloc),
+            fields: NewDecoder::new(alloc),
         }
     }
 
@@ -186,10 +188,12 @@ impl<'a> HoldsData for AccountPart1Decoder<'a> {
     ghost owned = { λ d. ⟦<Data1<'a> as HoldsData>⟧.owned d.fields };
 
     ghost free_inside = { λ d. ⟦<Data1<'a> as HoldsData>⟧.free_inside d.fields };
+}
 
+impl<'a> NewDecoder for AccountPart1Decoder<'a> {
     fn new(alloc: Global) -> Self {
         AccountPart1Decoder {
-            fields: HoldsData::new(alloc),
+            fields: NewDecoder::new(alloc),
         }
     }
 
@@ -289,10 +293,12 @@ impl<'a> HoldsData for AccountPart2Decoder<'a> {
     ghost owned = { λ d. ⟦<Data2<'a> as HoldsData>⟧.owned d.fields };
 
     ghost free_inside = { λ d. ⟦<Data2<'a> as HoldsData>⟧.free_inside d.fields };
+}
 
+impl<'a> NewDecoder for AccountPart2Decoder<'a> {
     fn new(alloc: Global) -> Self {
         AccountPart2Decoder {
-            fields: HoldsData::new(alloc),
+            fields: NewDecoder::new(alloc),
         }
     }
 
@@ -977,10 +983,12 @@ impl<'a> HoldsData for AccountDecoder<'a> {
     ghost owned = { λ d. ⟦<Data<'a> as HoldsData>⟧.owned d.fields };
 
     ghost free_inside = { λ d. ⟦<Data<'a> as HoldsData>⟧.free_inside d.fields };
+}
 
+impl<'a> NewDecoder for AccountDecoder<'a> {
     fn new(alloc: Global) -> Self {
         AccountDecoder {
-            fields: HoldsData::new(alloc),
+            fields: NewDecoder::new(alloc),
         }
     }
 

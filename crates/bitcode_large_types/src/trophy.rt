@@ -2,7 +2,7 @@
 ghost use Rattle.std.specs.Prelude.{◌&&◌, IfSome};
 ghost use Rattle.bitcode.specs.ByHand.{ReadsValue, columns_alike, data_as, field_alike, pair_alike, refl};
 
-use bitcode::coder::{Buffer, ColumnFree, Decoder, Encoder, HoldsData, View};
+use bitcode::coder::{Buffer, ColumnFree, Decoder, Encoder, HoldsData, NewDecoder, View};
 use bitcode::own::{DecoderOfFields, HasField, InFields, Nth, Part, StructEncoder};
 use bitcode::{ConvertFrom, DecodeOwned, Error, HasDecoder, HasEncoder, Shaped};
 use std::alloc::Global;
@@ -154,10 +154,12 @@ impl<'a> HoldsData for TrophyDecoder<'a> {
     ghost owned = { λ d. ⟦<Data<'a> as HoldsData>⟧.owned d.fields };
 
     ghost free_inside = { λ d. ⟦<Data<'a> as HoldsData>⟧.free_inside d.fields };
+}
 
+impl<'a> NewDecoder for TrophyDecoder<'a> {
     fn new(alloc: Global) -> Self {
         TrophyDecoder {
-            fields: HoldsData::new(alloc),
+            fields: NewDecoder::new(alloc),
         }
     }
 

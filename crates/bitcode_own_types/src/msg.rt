@@ -5,7 +5,7 @@ ghost use Rattle.bitcode.specs.ByHand.{columns_and, columns_in, each_variant, en
 ghost use Rattle.bitcode.specs.ByHand.{of_one_of_3, payload_and, payloads_in, refl};
 ghost use Rattle.bitcode_own_types.specs.declared.msg.Msg.{Msg};
 
-use bitcode::coder::{Buffer, Decoder, Encoder, View};
+use bitcode::coder::{Buffer, Decoder, Encoder, NewDecoder, View};
 use bitcode::own::{
     At, Decoders3, Encoders3, Enum, EnumDecoder, EnumEncoder, EnumOf, OneOf3, VariantColumns,
     VariantPayloads, Variants3, WritesVariants, told_as,
@@ -146,9 +146,9 @@ pub struct MsgPayloads<T, D1, D2, D3> {
 impl<
     'a,
     T: Shaped,
-    D1: View<'a> + Decoder<T>,
-    D2: View<'a> + Decoder<Vec<T>>,
-    D3: View<'a> + Decoder<()>,
+    D1: NewDecoder + View<'a> + Decoder<T>,
+    D2: NewDecoder + View<'a> + Decoder<Vec<T>>,
+    D3: NewDecoder + View<'a> + Decoder<()>,
 > VariantPayloads<'a, At<0>, At<3>, Msg<T>> for MsgPayloads<T, D1, D2, D3> {
     ghost held = { payloads_in (λ d. d.all)
         ⟦<Decoders3<At<0>, (T, Vec<T>, ()), D1, D2, D3> as VariantPayloads<'a, At<0>, At<3>, Msg<T>>>⟧.held };

@@ -2,7 +2,7 @@
 ghost use Rattle.std.specs.Prelude.{◌≡◌, false, IfOk, IfErr};
 ghost use Rattle.bitcode.specs.ByHand.{MakesOfElements, data_as, refl};
 
-use bitcode::coder::{ColumnFree, HoldsData, Result};
+use bitcode::coder::{ColumnFree, HoldsData, NewDecoder, Result};
 use bitcode::own::{FromElements, Sequence, encode_each};
 use bitcode::{
     DecodeOwned, Decoder, Encoder, HasDecoder, HasEncoder, IntDecoder, IntEncoder, Reason, Shaped,
@@ -74,10 +74,12 @@ impl<'a> HoldsData for ScoresDecoder<'a> {
     ghost owned = { λ d. ⟦<Lists<'a> as HoldsData>⟧.owned d.lists };
 
     ghost free_inside = { λ d. ⟦<Lists<'a> as HoldsData>⟧.free_inside d.lists };
+}
 
+impl<'a> NewDecoder for ScoresDecoder<'a> {
     fn new(alloc: Global) -> Self {
         ScoresDecoder {
-            lists: HoldsData::new(alloc),
+            lists: NewDecoder::new(alloc),
         }
     }
 

@@ -13,7 +13,7 @@ ghost use Rattle.bitcode_parts.specs.Arrays.{array_room, ArraysOverflow, arrays_
 ghost use Rattle.bitcode_parts.specs.ArrayLaws.{arrays_of_shape, arrays_overflow, same_array_shape};
 
 use crate::lists::sequence::{decode_each, encode_each};
-use bitcode_coder::coder::{Buffer, Decoder, Encoder, HoldsData, View};
+use bitcode_coder::coder::{Buffer, Decoder, Encoder, HoldsData, NewDecoder, View};
 use bitcode_coder::column_free::ColumnFree;
 use bitcode_memory::consume::mul_length;
 use bitcode_memory::error::{Error, Reason};
@@ -142,7 +142,9 @@ impl<D: HoldsData, const N: usize> HoldsData for ArrayDecoder<D, N> {
 
     ghost free_inside = { λ d. count_if_free (has_entry D.shape) (d.left * N)
         + D.free_inside d.elements };
+}
 
+impl<D: NewDecoder, const N: usize> NewDecoder for ArrayDecoder<D, N> {
     fn new(alloc: Global) -> Self {
         ArrayDecoder {
             alloc,

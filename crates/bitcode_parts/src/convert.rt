@@ -4,7 +4,7 @@ ghost use Rattle.std.proofs.Common.{sym, ◌∙◌};
 ghost use Rattle.bitcode_coder.specs.Coder.{ListsAsToo, MakesToo};
 ghost use Rattle.bitcode_parts.specs.Convert.{IsWrittenAs, surely_as};
 
-use bitcode_coder::coder::{Buffer, Decoder, Encoder, HoldsData, View};
+use bitcode_coder::coder::{Buffer, Decoder, Encoder, HoldsData, NewDecoder, View};
 use bitcode_coder::column_free::ColumnFree;
 use bitcode_memory::error::{Error, Reason};
 use bitcode_shapes::shaped::Shaped;
@@ -152,7 +152,9 @@ impl<T: Drop, D: HoldsData> HoldsData for ConvertFromDecoder<T, D> {
     ghost owned = { λ d. D.owned d.inner };
 
     ghost free_inside = { λ d. D.free_inside d.inner };
+}
 
+impl<T: Drop, D: NewDecoder> NewDecoder for ConvertFromDecoder<T, D> {
     fn new(alloc: Global) -> Self {
         ConvertFromDecoder {
             alloc,

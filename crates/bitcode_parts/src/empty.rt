@@ -5,7 +5,7 @@ ghost use Rattle.bitcode_shapes.specs.Shape.{unit_shape};
 ghost use Rattle.bitcode_coder.specs.Columns.{no_columns};
 ghost use Rattle.bitcode_coder.specs.Coder.{endless_room};
 
-use bitcode_coder::coder::{Buffer, Decoder, Encoder, HoldsData, View};
+use bitcode_coder::coder::{Buffer, Decoder, Encoder, HoldsData, NewDecoder, View};
 use bitcode_coder::column_free::ColumnFree;
 use bitcode_memory::error::Error;
 use std::alloc::Global;
@@ -31,7 +31,7 @@ impl Buffer for EmptyCoder {
     ghost overflows = { λ e n. ⊥ };
 
     fn new(alloc: Global) -> Self {
-        HoldsData::new(alloc)
+        NewDecoder::new(alloc)
     }
 
     fn reserve(&mut self, _n: usize) -> Result<(), Error> {
@@ -65,7 +65,9 @@ impl HoldsData for EmptyCoder {
     ghost owned = { λ d. 0 };
 
     ghost free_inside = { λ d. 0 };
+}
 
+impl NewDecoder for EmptyCoder {
     fn new(_alloc: Global) -> Self {
         EmptyCoder { left: 0 }
     }

@@ -12,7 +12,7 @@ ghost use Rattle.bitcode_parts.specs.Lists.{lists_of};
 
 use crate::lists::sequence::{Sequence, encode_each};
 use arrayvec::ArrayVec;
-use bitcode_coder::coder::{Decoder, Encoder, HoldsData, View, both};
+use bitcode_coder::coder::{Decoder, Encoder, HoldsData, NewDecoder, View, both};
 use bitcode_coder::column_free::ColumnFree;
 use bitcode_coder::length::LengthDecoder;
 use bitcode_memory::error::{Error, Reason};
@@ -50,7 +50,9 @@ impl<'a, D: HoldsData, const N: usize> HoldsData for ArrayVecDecoder<'a, D, N> {
 
     ghost free_inside = { λ d. count_if_free (has_entry D.shape) (lengths_sum d.lengths)
         + D.free_inside d.elements };
+}
 
+impl<'a, D: NewDecoder, const N: usize> NewDecoder for ArrayVecDecoder<'a, D, N> {
     fn new(alloc: Global) -> Self {
         ArrayVecDecoder {
             alloc,

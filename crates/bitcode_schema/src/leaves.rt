@@ -10,7 +10,7 @@ ghost use Rattle.bitcode_schema.specs.Reading.{ReadsData};
 
 use crate::limits::exceed;
 use crate::schema::IntKind;
-use bitcode_coder::coder::{HoldsData, View, both};
+use bitcode_coder::coder::{NewDecoder, View, both};
 use bitcode_coder::length::LengthDecoder;
 use bitcode_coder::str::StrDecoder;
 use bitcode_ints::checked::CheckedIntDecoder;
@@ -26,7 +26,7 @@ use std::num::{
 };
 
 /// Reads `k` data with the decoder of a Rust type.
-pub(crate) fn read_leaf<'a, D: View<'a> + Drop>(
+pub(crate) fn read_leaf<'a, D: NewDecoder + View<'a> + Drop>(
     alloc: Global,
     input: &mut &'a [u8],
     k: usize,

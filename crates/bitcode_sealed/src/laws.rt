@@ -9,7 +9,7 @@ ghost use Rattle.bitcode_sealed.specs.Sealing.{IsSealingOf};
 
 use crate::error::OpenError;
 use crate::label::{Expected, Label};
-use bitcode_coder::coder::{Decoder, View};
+use bitcode_coder::coder::{Decoder, NewDecoder, View};
 use bitcode_derive::derive::HasDecoder;
 use bitcode_shapes::shaped::Shaped;
 
@@ -59,7 +59,7 @@ pub fn comes_back<'a, T: HasDecoder<'a> + Shaped + Drop>(
     again: &Result<T, OpenError>,
 )
 where
-    T::Decoder: View<'a> + Decoder<T> + Drop,
+    T::Decoder: NewDecoder + View<'a> + Decoder<T> + Drop,
     ensures equal { IsSealingOf T.data.lists T.data.shape label t.now bytes.now
         → HasShortLengths T.data.lists T.data.shape t.now
         → IfOk again.now (λ u. IsOpeningOf T.data.makes T.data.shape expected.now bytes.now u)

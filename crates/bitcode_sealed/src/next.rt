@@ -9,7 +9,7 @@ use crate::error::OpenError;
 use crate::front::{next_head, skip_sealed};
 use crate::label::Expected;
 use crate::values::open_front;
-use bitcode_coder::coder::{Decoder, View};
+use bitcode_coder::coder::{Decoder, NewDecoder, View};
 use bitcode_derive::derive::HasDecoder;
 use bitcode_memory::error::{Error, Reason};
 use bitcode_memory::refuse::err;
@@ -79,7 +79,7 @@ pub fn open_next<'a, T: HasDecoder<'a> + Shaped + Drop>(
     input: &mut &'a [u8],
 ) -> Result<Next<T>, Error>
 where
-    T::Decoder: View<'a> + Decoder<T> + Drop,
+    T::Decoder: NewDecoder + View<'a> + Decoder<T> + Drop,
     ensures found { IfOk result (λ next. IsNextOf T.data.makes T.data.shape
         (λ e. IsRefusalOfFront T.Decoder.makes_free T.Decoder.shape T.data.shape
         expected.now input.old.now e) expected.now input.old.now input.new.now next) }

@@ -9,7 +9,7 @@ ghost use Rattle.bitcode_sealed.specs.Opening.{IsRefusalOfFront};
 use crate::bytes::{seal_bytes, split_sealed};
 use crate::error::OpenError;
 use crate::label::{Expected, Label};
-use bitcode_coder::coder::{Buffer, Decoder, Encoder, View};
+use bitcode_coder::coder::{Buffer, Decoder, Encoder, NewDecoder, View};
 use bitcode_derive::derive::{HasDecoder, HasEncoder};
 use bitcode_derive::whole::{decode, encode};
 use bitcode_memory::error::Error;
@@ -74,7 +74,7 @@ fn decode_value<'a, T: HasDecoder<'a> + Shaped + Drop>(
     value: &'a [u8],
 ) -> Result<T, OpenError>
 where
-    T::Decoder: View<'a> + Decoder<T> + Drop,
+    T::Decoder: NewDecoder + View<'a> + Decoder<T> + Drop,
     ensures found { IfOk result (λ t. IsDecodingOf T.data.makes T.data.shape value.now t) }
     ensures refused { IfErr result
         (λ e. IsDecodingRefusal T.Decoder.makes_free T.Decoder.shape T.data.shape
@@ -102,7 +102,7 @@ pub fn open<'a, T: HasDecoder<'a> + Shaped + Drop>(
     bytes: &'a [u8],
 ) -> Result<T, OpenError>
 where
-    T::Decoder: View<'a> + Decoder<T> + Drop,
+    T::Decoder: NewDecoder + View<'a> + Decoder<T> + Drop,
     ensures found { IfOk result
         (λ t. IsOpeningOf T.data.makes T.data.shape expected.now bytes.now t) }
     ensures refused { IfErr result
@@ -140,7 +140,7 @@ pub fn open_front<'a, T: HasDecoder<'a> + Shaped + Drop>(
     input: &mut &'a [u8],
 ) -> Result<T, OpenError>
 where
-    T::Decoder: View<'a> + Decoder<T> + Drop,
+    T::Decoder: NewDecoder + View<'a> + Decoder<T> + Drop,
     ensures found { IfOk result
         (λ t. IsOpeningOfFront T.data.makes T.data.shape expected.now input.old.now t
         input.new.now) }

@@ -10,7 +10,7 @@ use crate::error::OpenError;
 use crate::front::read_label;
 use crate::label::{Expected, Label};
 use crate::values::open;
-use bitcode_coder::coder::{Decoder, View};
+use bitcode_coder::coder::{Decoder, NewDecoder, View};
 use bitcode_derive::derive::HasDecoder;
 use bitcode_shapes::shaped::Shaped;
 use std::alloc::Global;
@@ -119,7 +119,7 @@ pub trait ReadsVersions<'a, T> {
 impl<'a, const VERSION: u16, T: Earlier<VERSION>> ReadsVersions<'a, T> for Version<VERSION>
 where
     T::Before: HasDecoder<'a> + Shaped + Drop,
-    <T::Before as HasDecoder<'a>>::Decoder: View<'a> + Decoder<T::Before> + Drop,
+    <T::Before as HasDecoder<'a>>::Decoder: NewDecoder + View<'a> + Decoder<T::Before> + Drop,
 {
     type Inside = (T::Before, <T::Before as HasDecoder<'a>>::Decoder);
 
@@ -210,7 +210,7 @@ pub fn open_any<'a, T: Versioned + HasDecoder<'a> + Shaped + Drop>(
     bytes: &'a [u8],
 ) -> Result<T, OpenError>
 where
-    T::Decoder: View<'a> + Decoder<T> + Drop,
+    T::Decoder: NewDecoder + View<'a> + Decoder<T> + Drop,
     T::Versions: ReadsVersions<'a, T>,
     ensures found { IfOk result
         (λ t. IsOpeningOfAny T.data.makes T.data.shape T.Versions.includes T.Versions.opens

@@ -19,7 +19,7 @@ ghost use Rattle.bitcode_serde.specs.ReadColumns.{AddsTaken, ReadsColumn, IsColu
 use crate::case::Case;
 use crate::column::{Column, ColumnKind, for_leaves};
 use crate::serde::VariantDecoder;
-use bitcode_coder::coder::{Decoder, HoldsData, View};
+use bitcode_coder::coder::{Decoder, NewDecoder, View};
 use bitcode_coder::length::LengthDecoder;
 use bitcode_memory::error::{Error, Reason};
 use bitcode_shapes::shaped::Shaped;
@@ -27,7 +27,7 @@ use bitcode_untyped::value::Value;
 use std::alloc::Global;
 
 // Reads a column of so many entries of a leaf. Where `strict`, the answer is whether its bytes are its text.
-fn read_leaf<'a, T: Case, D: View<'a> + Decoder<T> + Drop>(
+fn read_leaf<'a, T: Case, D: NewDecoder + View<'a> + Decoder<T> + Drop>(
     alloc: Global,
     input: &mut &'a [u8],
     count: usize,

@@ -5,7 +5,7 @@ ghost use Rattle.bitcode_shapes.specs.Datum.{Datum};
 ghost use Rattle.bitcode_shapes.specs.Shape.{admitted_shape};
 ghost use Rattle.bitcode_structs.specs.CheckedFields.{admitted_front};
 
-use bitcode_coder::coder::{Decoder, HoldsData, View};
+use bitcode_coder::coder::{Decoder, HoldsData, NewDecoder, View};
 use bitcode_coder::column_free::ColumnFree;
 use bitcode_memory::error::{Error, Reason};
 use bitcode_memory::refuse::err;
@@ -103,7 +103,10 @@ impl<T: FromChecked<P, D> + Drop, P: Shaped + Drop, D: Decoder<P>> HoldsData
     ghost owned = { λ d. D.owned d.fields };
 
     ghost free_inside = { λ d. D.free_inside d.fields };
+}
 
+impl<T: FromChecked<P, D> + Drop, P: Shaped + Drop, D: NewDecoder + Decoder<P>> NewDecoder
+    for CheckedDecoder<T, P, D> {
     fn new(alloc: Global) -> Self {
         CheckedDecoder {
             alloc,
@@ -118,7 +121,7 @@ impl<T: FromChecked<P, D> + Drop, P: Shaped + Drop, D: Decoder<P>> HoldsData
     }
 }
 
-impl<'a, T: FromChecked<P, D> + Drop, P: Shaped + Drop, D: View<'a> + Decoder<P> + Drop> View<'a>
+impl<'a, T: FromChecked<P, D> + Drop, P: Shaped + Drop, D: NewDecoder + View<'a> + Decoder<P> + Drop> View<'a>
     for CheckedDecoder<T, P, D> {
     fn read(&mut self, input: &mut &'a [u8], k: usize, strict: bool) -> Result<bool, Error> {
         let mut start = *input;

@@ -3,7 +3,7 @@ ghost use Rattle.std.specs.Prelude.{◌≡◌};
 ghost use Rattle.std.proofs.Common.{◌∙◌, sym};
 ghost use Rattle.bitcode_coder.specs.Coder.{MakesToo};
 
-use bitcode_coder::coder::{Decoder, HoldsData, View};
+use bitcode_coder::coder::{Decoder, HoldsData, NewDecoder, View};
 use bitcode_coder::column_free::ColumnFree;
 use bitcode_memory::error::Error;
 use bitcode_shapes::shaped::Shaped;
@@ -73,7 +73,9 @@ impl<P: Drop, D: HoldsData> HoldsData for PrivateDecoder<P, D> {
     ghost owned = { λ d. D.owned d.fields };
 
     ghost free_inside = { λ d. D.free_inside d.fields };
+}
 
+impl<P: Drop, D: NewDecoder> NewDecoder for PrivateDecoder<P, D> {
     fn new(alloc: Global) -> Self {
         PrivateDecoder {
             fields: D::new(alloc),

@@ -1,6 +1,6 @@
 //! Whole values that are read strictly.
 use crate::Got;
-use bitcode::{Decoder, HasDecoder, Reason, Shaped, View, decode_strict};
+use bitcode::{Decoder, HasDecoder, NewDecoder, Reason, Shaped, View, decode_strict};
 use std::alloc::Global;
 
 /// Read strictly, the bytes are this value.
@@ -10,7 +10,7 @@ pub fn decodes_strictly<'a, T: HasDecoder<'a> + Shaped + Drop + PartialEq>(
     expected: T,
 ) -> Result<(), Got>
 where
-    T::Decoder: View<'a> + Decoder<T> + Drop,
+    T::Decoder: NewDecoder + View<'a> + Decoder<T> + Drop,
 {
     match decode_strict::<T>(alloc, bytes) {
         Ok(t) if t == expected => Ok(()),
@@ -26,7 +26,7 @@ pub fn refuses_strictly<'a, T: HasDecoder<'a> + Shaped + Drop>(
     expected: Reason,
 ) -> Result<(), Got>
 where
-    T::Decoder: View<'a> + Decoder<T> + Drop,
+    T::Decoder: NewDecoder + View<'a> + Decoder<T> + Drop,
 {
     match decode_strict::<T>(alloc, bytes) {
         Ok(_) => Err(Got::AnotherValue),

@@ -2,7 +2,8 @@
 use crate::Got;
 use bitcode::coder::Buffer;
 use bitcode::{
-    DecodeOwned, Decoder, Encoder, HasDecoder, HasEncoder, Reason, Shaped, View, decode, encode,
+    DecodeOwned, Decoder, Encoder, HasDecoder, HasEncoder, NewDecoder, Reason, Shaped, View, decode,
+    encode,
 };
 use std::alloc::Global;
 
@@ -25,7 +26,7 @@ pub fn decodes<'a, T: HasDecoder<'a> + Shaped + Drop + PartialEq>(
     expected: T,
 ) -> Result<(), Got>
 where
-    T::Decoder: View<'a> + Decoder<T> + Drop,
+    T::Decoder: NewDecoder + View<'a> + Decoder<T> + Drop,
 {
     match decode::<T>(alloc, bytes) {
         Ok(t) if t == expected => Ok(()),
@@ -41,7 +42,7 @@ pub fn refuses<'a, T: HasDecoder<'a> + Shaped + Drop>(
     expected: Reason,
 ) -> Result<(), Got>
 where
-    T::Decoder: View<'a> + Decoder<T> + Drop,
+    T::Decoder: NewDecoder + View<'a> + Decoder<T> + Drop,
 {
     match decode::<T>(alloc, bytes) {
         Ok(_) => Err(Got::AnotherValue),
@@ -58,7 +59,7 @@ pub fn both_ways<'a, T: HasEncoder + HasDecoder<'a> + Shaped + Drop + PartialEq>
 ) -> Result<(), Got>
 where
     T::Encoder: Encoder<T> + Drop,
-    T::Decoder: View<'a> + Decoder<T> + Drop,
+    T::Decoder: NewDecoder + View<'a> + Decoder<T> + Drop,
 {
     encodes(alloc, &t, bytes)?;
     decodes(alloc, bytes, t)
@@ -73,7 +74,7 @@ pub fn holds<'a, T: HasEncoder + HasDecoder<'a> + Shaped + Drop + PartialEq>(
 ) -> Result<(), Got>
 where
     T::Encoder: Encoder<T> + Drop,
-    T::Decoder: View<'a> + Decoder<T> + Drop,
+    T::Decoder: NewDecoder + View<'a> + Decoder<T> + Drop,
 {
     both_ways(alloc, t, bytes)?;
     for (other, reason) in refused {
@@ -90,7 +91,7 @@ pub fn written_and_read<'a, T: HasEncoder + HasDecoder<'a> + DecodeOwned + Shape
 ) -> Result<T, Got>
 where
     T::Encoder: Encoder<T> + Drop,
-    T::Decoder: View<'a> + Decoder<T> + Drop,
+    T::Decoder: NewDecoder + View<'a> + Decoder<T> + Drop,
 {
     encodes(alloc, t, bytes)?;
     Ok(decode(alloc, bytes)?)

@@ -4,7 +4,7 @@ ghost use Rattle.bitcode_shapes.specs.Shape.{pair_shape};
 ghost use Rattle.bitcode_tuples.specs.Pairs.{pairs_of};
 ghost use Rattle.bitcode_tuples.specs.PairLaws.{same_pair_shape};
 
-use bitcode_coder::coder::{Decoder, HoldsData, View, both};
+use bitcode_coder::coder::{Decoder, HoldsData, NewDecoder, View, both};
 use bitcode_coder::column_free::ColumnFree;
 use bitcode_memory::error::Error;
 use bitcode_shapes::shaped::Shaped;
@@ -30,7 +30,9 @@ impl<A: HoldsData, B: HoldsData> HoldsData for TupleDecoder<A, B> {
     ghost owned = { λ d. A.owned d.first + B.owned d.second };
 
     ghost free_inside = { λ d. A.free_inside d.first + B.free_inside d.second };
+}
 
+impl<A: NewDecoder, B: NewDecoder> NewDecoder for TupleDecoder<A, B> {
     fn new(alloc: Global) -> Self {
         TupleDecoder {
             first: A::new(alloc),

@@ -17,7 +17,7 @@ ghost use Rattle.bitcode_coder.specs.Spelling.{Spells};
 ghost use Rattle.bitcode_coder.specs.Strict.{JudgesData};
 ghost use Rattle.bitcode_coder.specs.TextParts.{NamesTextFault};
 
-use crate::coder::{Decoder, HoldsData, View};
+use crate::coder::{Decoder, HoldsData, NewDecoder, View};
 use crate::column_free::ColumnFree;
 use crate::length::LengthDecoder;
 use bitcode_memory::consume::consume_bytes;
@@ -215,7 +215,9 @@ impl<'a> HoldsData for StrDecoder<'a> {
     ghost owned = { λ d. lengths_owned d.lengths };
 
     ghost free_inside = { λ d. 0 };
+}
 
+impl<'a> NewDecoder for StrDecoder<'a> {
     fn new(alloc: Global) -> Self {
         let none: &[u8] = &[];
         StrDecoder {

@@ -7,7 +7,7 @@ ghost use Rattle.bitcode_shapes.specs.Shape.{text_shape};
 ghost use Rattle.bitcode_coder.specs.Cutting.{cut};
 ghost use Rattle.bitcode_coder.specs.Length.{lengths_left, lengths_owned};
 
-use crate::coder::{Decoder, HoldsData, View};
+use crate::coder::{Decoder, HoldsData, NewDecoder, View};
 use crate::column_free::ColumnFree;
 use crate::str::StrDecoder;
 use arrayvec::ArrayString;
@@ -44,7 +44,9 @@ impl<'a, const N: usize> HoldsData for ArrayStringDecoder<'a, N> {
     ghost owned = { λ d. lengths_owned d.column.lengths };
 
     ghost free_inside = { λ d. 0 };
+}
 
+impl<'a, const N: usize> NewDecoder for ArrayStringDecoder<'a, N> {
     fn new(alloc: Global) -> Self {
         ArrayStringDecoder {
             alloc,

@@ -12,7 +12,7 @@ use crate::enums::Enum;
 use crate::number::VariantNumber;
 use crate::payloads::{VariantPayloads, read_and_count};
 use crate::writes::{WritesVariants, encode_payload_fields};
-use bitcode_coder::coder::{Buffer, Decoder, Encoder, HoldsData, View};
+use bitcode_coder::coder::{Buffer, Decoder, Encoder, NewDecoder, View};
 use bitcode_derive::derive::{HasDecoder, HasEncoder};
 use bitcode_memory::error::Error;
 use bitcode_shapes::shaped::Shaped;
@@ -208,8 +208,8 @@ impl<
     End: VariantNumber,
     P1: Shaped,
     P2: Shaped,
-    D1: View<'a> + Decoder<P1>,
-    D2: View<'a> + Decoder<P2>,
+    D1: NewDecoder + View<'a> + Decoder<P1>,
+    D2: NewDecoder + View<'a> + Decoder<P2>,
     T: Variants2<First, End, P1, P2>,
 > VariantPayloads<'a, First, End, T> for Decoders2<First, (P1, P2), D1, D2> {
     ghost held = { record {

@@ -12,7 +12,7 @@ use crate::enums::Enum;
 use crate::number::VariantNumber;
 use crate::payloads::{VariantPayloads, read_and_count};
 use crate::writes::{WritesVariants, encode_payload_fields};
-use bitcode_coder::coder::{Buffer, Decoder, Encoder, HoldsData, View};
+use bitcode_coder::coder::{Buffer, Decoder, Encoder, NewDecoder, View};
 use bitcode_derive::derive::{HasDecoder, HasEncoder};
 use bitcode_memory::error::Error;
 use bitcode_shapes::shaped::Shaped;
@@ -268,9 +268,9 @@ impl<
     P1: Shaped,
     P2: Shaped,
     P3: Shaped,
-    D1: View<'a> + Decoder<P1>,
-    D2: View<'a> + Decoder<P2>,
-    D3: View<'a> + Decoder<P3>,
+    D1: NewDecoder + View<'a> + Decoder<P1>,
+    D2: NewDecoder + View<'a> + Decoder<P2>,
+    D3: NewDecoder + View<'a> + Decoder<P3>,
     T: Variants3<First, End, P1, P2, P3>,
 > VariantPayloads<'a, First, End, T> for Decoders3<First, (P1, P2, P3), D1, D2, D3> {
     ghost held = { record {

@@ -11,7 +11,7 @@ use crate::choices::gathered::gather_variants;
 use crate::choices::option::gathered::{OptionVariant, encode_values};
 use crate::choices::variant::{VariantDecoder, VariantEncoder, encode_payload};
 use crate::empty::EmptyCoder;
-use bitcode_coder::coder::{Buffer, Decoder, Encoder, HoldsData, MAX_VECTORED_CHUNK, View, both};
+use bitcode_coder::coder::{Buffer, Decoder, Encoder, HoldsData, MAX_VECTORED_CHUNK, NewDecoder, View, both};
 use bitcode_coder::column_free::ColumnFree;
 use bitcode_coder::one::write_one;
 use bitcode_coder::part::Part;
@@ -143,11 +143,13 @@ impl<'a, D: HoldsData> HoldsData for OptionDecoder<'a, D> {
     ghost owned = { λ d. variants_owned d.variants + D.owned d.some };
 
     ghost free_inside = { λ d. D.free_inside d.some };
+}
 
+impl<'a, D: NewDecoder> NewDecoder for OptionDecoder<'a, D> {
     fn new(alloc: Global) -> Self {
         OptionDecoder {
             variants: VariantDecoder::new(alloc),
-            none: HoldsData::new(alloc),
+            none: NewDecoder::new(alloc),
             some: D::new(alloc),
         }
     }

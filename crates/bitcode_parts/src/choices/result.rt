@@ -8,7 +8,7 @@ ghost use Rattle.bitcode_parts.specs.TwoVariantLaws.{same_two_variants, two_vari
 ghost use Rattle.bitcode_parts.specs.Variants.{variant_room, variant_capacity, variants_left, variants_owned};
 
 use crate::choices::variant::{VariantDecoder, VariantEncoder, encode_payload};
-use bitcode_coder::coder::{Buffer, Decoder, Encoder, HoldsData, View, both};
+use bitcode_coder::coder::{Buffer, Decoder, Encoder, HoldsData, NewDecoder, View, both};
 use bitcode_coder::column_free::ColumnFree;
 use bitcode_memory::consume::consume_byte;
 use bitcode_memory::error::Error;
@@ -112,7 +112,9 @@ impl<'a, A: HoldsData, B: HoldsData> HoldsData for ResultDecoder<'a, A, B> {
     ghost owned = { λ d. variants_owned d.variants + A.owned d.ok + B.owned d.err };
 
     ghost free_inside = { λ d. A.free_inside d.ok + B.free_inside d.err };
+}
 
+impl<'a, A: NewDecoder, B: NewDecoder> NewDecoder for ResultDecoder<'a, A, B> {
     fn new(alloc: Global) -> Self {
         ResultDecoder {
             variants: VariantDecoder::new(alloc),

@@ -16,7 +16,7 @@ ghost use Rattle.bitcode_coder.specs.FirstFault.{IsFirstFault};
 ghost use Rattle.bitcode_coder.specs.Spelling.{Spells, natural};
 ghost use Rattle.bitcode_coder.specs.Strict.{JudgesData};
 
-use bitcode_coder::coder::{Buffer, Encoder, HoldsData, MAX_VECTORED_CHUNK, View};
+use bitcode_coder::coder::{Buffer, Encoder, HoldsData, MAX_VECTORED_CHUNK, NewDecoder, View};
 use bitcode_coder::column_free::ColumnFree;
 use bitcode_columns::pack::pack_bytes_less_than;
 use bitcode_columns::strict::read_variants;
@@ -257,7 +257,9 @@ impl<'a, const N: usize, const C_STYLE: bool> HoldsData for VariantDecoder<'a, N
     ghost owned = { variants_owned };
 
     ghost free_inside = { λ d. 0 };
+}
 
+impl<'a, const N: usize, const C_STYLE: bool> NewDecoder for VariantDecoder<'a, N, C_STYLE> {
     fn new(alloc: Global) -> Self {
         VariantDecoder::new(alloc)
     }

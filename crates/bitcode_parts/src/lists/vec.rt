@@ -19,7 +19,7 @@ ghost use Rattle.bitcode_coder.specs.Length.{lengths_owned, lengths_sum};
 ghost use Rattle.bitcode_parts.specs.Lists.{lists_of, list_columns};
 
 use crate::lists::sequence::{FromElements, Sequence, decode_each};
-use bitcode_coder::coder::{Buffer, Decoder, Encoder, HoldsData, MAX_VECTORED_CHUNK, View, both};
+use bitcode_coder::coder::{Buffer, Decoder, Encoder, HoldsData, MAX_VECTORED_CHUNK, NewDecoder, View, both};
 use bitcode_coder::column_free::ColumnFree;
 use bitcode_coder::length::{LengthDecoder, LengthEncoder};
 use bitcode_coder::part::{Part, told_parts};
@@ -264,7 +264,9 @@ impl<'a, D: HoldsData> HoldsData for VecDecoder<'a, D> {
 
     ghost free_inside = { λ d. count_if_free (has_entry D.shape) (lengths_sum d.lengths)
         + D.free_inside d.elements };
+}
 
+impl<'a, D: NewDecoder> NewDecoder for VecDecoder<'a, D> {
     fn new(alloc: Global) -> Self {
         VecDecoder {
             alloc,

@@ -25,7 +25,7 @@ use crate::make::becomes::Becomes;
 use crate::make::gather::{arrays, each, zipped};
 use crate::make::turns::AsSpan;
 use crate::schema::IntKind;
-use bitcode_coder::coder::{Decoder, HoldsData, View};
+use bitcode_coder::coder::{Decoder, NewDecoder, View};
 use bitcode_coder::length::LengthDecoder;
 use bitcode_coder::str::StrDecoder;
 use bitcode_derive::absent::AbsentDecoder;
@@ -60,7 +60,7 @@ fn values<T: Becomes, D: Decoder<T>>(
 }
 
 /// Reads `k` data with the decoder of a Rust type, and makes values of them.
-pub(crate) fn make_leaf<'a, T: Becomes, D: View<'a> + Decoder<T> + Drop>(
+pub(crate) fn make_leaf<'a, T: Becomes, D: NewDecoder + View<'a> + Decoder<T> + Drop>(
     alloc: Global,
     input: &mut &'a [u8],
     k: usize,

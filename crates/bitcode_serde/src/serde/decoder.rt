@@ -14,7 +14,7 @@ ghost use Rattle.bitcode_coder.specs.Strict.{JudgesData, StrictlySpells};
 ghost use Rattle.bitcode_coder.specs.ColumnFree.{free_count, saturated};
 ghost use Rattle.bitcode_untyped.specs.Population.{count_of};
 
-use bitcode_coder::coder::{Decoder, HoldsData, View};
+use bitcode_coder::coder::{Decoder, HoldsData, NewDecoder, View};
 use bitcode_coder::column_free::ColumnFree;
 use bitcode_columns::histogram::histogram;
 use bitcode_columns::strict::read_bytes;
@@ -100,7 +100,9 @@ impl<'a> HoldsData for VariantDecoder<'a> {
     ghost owned = { indices_owned };
 
     ghost free_inside = { λ d. 0 };
+}
 
+impl<'a> NewDecoder for VariantDecoder<'a> {
     fn new(alloc: Global) -> Self
         ensures held { indices_left result ≡ [] }
         ensures owned { indices_owned result ≡ 0 }

@@ -3,7 +3,7 @@ ghost use Rattle.std.specs.Prelude.{true, min, refl, false, ◌+◌};
 ghost use Rattle.bitcode.specs.ByHand.{data_as, pairs_of, two};
 ghost use Rattle.bitcode_test_support.specs.Foo.{foo_fields};
 
-use bitcode::coder::{Buffer, ColumnFree, HoldsData, Result, both};
+use bitcode::coder::{Buffer, ColumnFree, HoldsData, NewDecoder, Result, both};
 use bitcode::{
     Decoder, Encoder, HasDecoder, HasEncoder, IntDecoder, IntEncoder, Shaped, StrDecoder,
     StrEncoder, TupleDecoder, View,
@@ -102,11 +102,13 @@ impl<'a> HoldsData for FooDecoder<'a> {
 
     ghost free_inside = { λ d. ⟦<IntDecoder<'a, u32> as HoldsData>⟧.free_inside d.x
         + ⟦<StrDecoder<'a> as HoldsData>⟧.free_inside d.y };
+}
 
+impl<'a> NewDecoder for FooDecoder<'a> {
     fn new(alloc: Global) -> Self {
         FooDecoder {
-            x: HoldsData::new(alloc),
-            y: HoldsData::new(alloc),
+            x: NewDecoder::new(alloc),
+            y: NewDecoder::new(alloc),
         }
     }
 

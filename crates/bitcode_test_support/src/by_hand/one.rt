@@ -3,7 +3,7 @@ ghost use Rattle.std.specs.Prelude.{true, refl};
 ghost use Rattle.bitcode.specs.ByHand.{data_as};
 ghost use Rattle.bitcode_test_support.specs.One.{one_again, one_field, one_found};
 
-use bitcode::coder::{Buffer, ColumnFree, HoldsData, Result};
+use bitcode::coder::{Buffer, ColumnFree, HoldsData, NewDecoder, Result};
 use bitcode::{
     DecodeOwned, Decoder, Encoder, HasDecoder, HasEncoder, IntDecoder, IntEncoder, Shaped, View,
 };
@@ -85,10 +85,12 @@ impl<'a> HoldsData for OneDecoder<'a> {
     ghost owned = { λ d. ⟦<IntDecoder<'a, u8> as HoldsData>⟧.owned d.a };
 
     ghost free_inside = { λ d. ⟦<IntDecoder<'a, u8> as HoldsData>⟧.free_inside d.a };
+}
 
+impl<'a> NewDecoder for OneDecoder<'a> {
     fn new(alloc: Global) -> Self {
         OneDecoder {
-            a: HoldsData::new(alloc),
+            a: NewDecoder::new(alloc),
         }
     }
 

@@ -3,7 +3,7 @@ ghost use Rattle.std.specs.Prelude.{[], ◌∷◌, true, false, refl, ◌+◌};
 ghost use Rattle.bitcode.specs.ByHand.{no_columns, two, choices_of, variant_room, variants_left, variants_owned};
 ghost use Rattle.bitcode_test_support.specs.Two.{two_data};
 
-use bitcode::coder::{Buffer, ColumnFree, HoldsData, Result, both};
+use bitcode::coder::{Buffer, ColumnFree, HoldsData, NewDecoder, Result, both};
 use bitcode::own::encode_payload;
 use bitcode::{
     DecodeOwned, Decoder, Encoder, HasDecoder, HasEncoder, IntDecoder, IntEncoder, ResultDecoder,
@@ -118,12 +118,14 @@ impl<'a> HoldsData for TwoDecoder<'a> {
 
     ghost free_inside = { λ d. ⟦<IntDecoder<'a, u8> as HoldsData>⟧.free_inside d.a
         + ⟦<IntDecoder<'a, i8> as HoldsData>⟧.free_inside d.b };
+}
 
+impl<'a> NewDecoder for TwoDecoder<'a> {
     fn new(alloc: Global) -> Self {
         TwoDecoder {
             variants: VariantDecoder::new(alloc),
-            a: HoldsData::new(alloc),
-            b: HoldsData::new(alloc),
+            a: NewDecoder::new(alloc),
+            b: NewDecoder::new(alloc),
         }
     }
 

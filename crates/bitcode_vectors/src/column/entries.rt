@@ -4,14 +4,14 @@ ghost use Rattle.std.specs.Prelude.{◌≤◌};
 use crate::column::kinds::Kind;
 use bitcode::own::decode_each;
 use bitcode::{
-    BoolDecoder, CowSlice, Decoder, Error, IntDecoder, LengthDecoder, Shaped, StrDecoder, View,
+    BoolDecoder, CowSlice, Decoder, Error, IntDecoder, LengthDecoder, NewDecoder, Shaped, StrDecoder, View,
     unpack_bytes_less_than,
 };
 use std::alloc::Global;
 use std::fmt::Debug;
 
 /// Reads so many values that one column holds.
-fn values<'a, T: Shaped + Drop, D: View<'a> + Decoder<T> + Drop>(
+fn values<'a, T: Shaped + Drop, D: NewDecoder + View<'a> + Decoder<T> + Drop>(
     alloc: Global,
     input: &mut &'a [u8],
     count: usize,
@@ -22,7 +22,7 @@ fn values<'a, T: Shaped + Drop, D: View<'a> + Decoder<T> + Drop>(
 }
 
 /// Reads so many integers that one column holds, and lists them.
-fn integers<'a, T: Shaped + Drop + Debug, D: View<'a> + Decoder<T> + Drop>(
+fn integers<'a, T: Shaped + Drop + Debug, D: NewDecoder + View<'a> + Decoder<T> + Drop>(
     alloc: Global,
     input: &mut &'a [u8],
     count: usize,

@@ -1,7 +1,7 @@
 -- Nothing was read.
 use Rattle.std.proofs.Common.{refl}
 use Rattle.bitcode_serde.specs.Indices.{index_count}
-use Rattle.bitcode_serde.proofs.serde.decoder.VariantDecoderHoldsData.new.Goals as goal
+use Rattle.bitcode_serde.proofs.serde.decoder.VariantDecoderNewDecoder.new.Goals as goal
 
 pub returns-clause-counts : goal.returns-clause-counts
 unfolding index_count
