@@ -44,7 +44,9 @@ pub trait HasDecoder<'a> {
 /// A type that can be decoded from an input that outlives `'a`: every lawful type whose decoder makes its values.
 ///
 /// It has no impls of its own. The calls that decode whole values drop the value and the remaining data.
-pub trait Decode<'a>: HasDecoder<'a, Decoder: NewDecoder + View<'a> + Decoder<Self> + Drop> + Shaped + Drop {}
+pub trait Decode<'a>: HasDecoder<'a, Decoder: NewDecoder + View<'a> + Decoder<Self> + Drop>
+    + Shaped
+    + Drop {}
 
 impl<'a, T: HasDecoder<'a> + Shaped + Drop> Decode<'a> for T
 where

@@ -121,8 +121,12 @@ impl<T: FromChecked<P, D> + Drop, P: Shaped + Drop, D: NewDecoder + Decoder<P>> 
     }
 }
 
-impl<'a, T: FromChecked<P, D> + Drop, P: Shaped + Drop, D: NewDecoder + View<'a> + Decoder<P> + Drop> View<'a>
-    for CheckedDecoder<T, P, D> {
+impl<
+    'a,
+    T: FromChecked<P, D> + Drop,
+    P: Shaped + Drop,
+    D: NewDecoder + View<'a> + Decoder<P> + Drop,
+> View<'a> for CheckedDecoder<T, P, D> {
     fn read(&mut self, input: &mut &'a [u8], k: usize, strict: bool) -> Result<bool, Error> {
         let mut start = *input;
         let written = self.fields.read(input, k, strict)?;

@@ -2,8 +2,8 @@
 use crate::Got;
 use bitcode::coder::Buffer;
 use bitcode::{
-    DecodeOwned, Decoder, Encoder, HasDecoder, HasEncoder, NewDecoder, Reason, Shaped, View, decode,
-    encode,
+    DecodeOwned, Decoder, Encoder, HasDecoder, HasEncoder, NewDecoder, Reason, Shaped, View,
+    decode, encode,
 };
 use std::alloc::Global;
 

@@ -11,7 +11,9 @@ use crate::choices::gathered::gather_variants;
 use crate::choices::option::gathered::{OptionVariant, encode_values};
 use crate::choices::variant::{VariantDecoder, VariantEncoder, encode_payload};
 use crate::empty::EmptyCoder;
-use bitcode_coder::coder::{Buffer, Decoder, Encoder, HoldsData, MAX_VECTORED_CHUNK, NewDecoder, View, both};
+use bitcode_coder::coder::{
+    Buffer, Decoder, Encoder, HoldsData, MAX_VECTORED_CHUNK, NewDecoder, View, both,
+};
 use bitcode_coder::column_free::ColumnFree;
 use bitcode_coder::one::write_one;
 use bitcode_coder::part::Part;

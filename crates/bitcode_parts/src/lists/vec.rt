@@ -19,7 +19,9 @@ ghost use Rattle.bitcode_coder.specs.Length.{lengths_owned, lengths_sum};
 ghost use Rattle.bitcode_parts.specs.Lists.{lists_of, list_columns};
 
 use crate::lists::sequence::{FromElements, Sequence, decode_each};
-use bitcode_coder::coder::{Buffer, Decoder, Encoder, HoldsData, MAX_VECTORED_CHUNK, NewDecoder, View, both};
+use bitcode_coder::coder::{
+    Buffer, Decoder, Encoder, HoldsData, MAX_VECTORED_CHUNK, NewDecoder, View, both,
+};
 use bitcode_coder::column_free::ColumnFree;
 use bitcode_coder::length::{LengthDecoder, LengthEncoder};
 use bitcode_coder::part::{Part, told_parts};

@@ -4,8 +4,8 @@ ghost use Rattle.std.specs.Prelude.{◌≤◌};
 use crate::column::kinds::Kind;
 use bitcode::own::decode_each;
 use bitcode::{
-    BoolDecoder, CowSlice, Decoder, Error, IntDecoder, LengthDecoder, NewDecoder, Shaped, StrDecoder, View,
-    unpack_bytes_less_than,
+    BoolDecoder, CowSlice, Decoder, Error, IntDecoder, LengthDecoder, NewDecoder, Shaped,
+    StrDecoder, View, unpack_bytes_less_than,
 };
 use std::alloc::Global;
 use std::fmt::Debug;
