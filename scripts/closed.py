@@ -43,7 +43,7 @@ WEIGHTS = {
     "SocketAddrV6": 6,
 }
 # What `use` lines bring in for coders of one's own.
-NEEDED = "bitcode::coder::{Buffer, ColumnFree, Decoder, Encoder, HoldsData, NewDecoder, View}"
+NEEDED = "bitcode::coder::{Buffer, ColumnFree, Decoder, EncodeMany, Encoder, HoldsData, NewDecoder, View}"
 
 # The columns of an encoder, which are those of the encoder that it forwards to.
 HOLDER = """/// The columns of `$simple`.
@@ -92,13 +92,15 @@ ENCODER = """impl$shaped Encoder<$name> for ${simple}Encoder {
         Encoder::<$name>::write_directly(&mut self.fields, t, out)
     }
 
-    fn encode_part_of_each<S, W: Part<S, $name>>(&mut self, items: &[S], which: &W, first: &$name) -> Result<(), Error> {
-        Encoder::<$name>::encode_part_of_each(&mut self.fields, items, which, first)
-    }
-
     ghost of_shape = { λ e. refl };
 
     ghost surely = { λ e n h. $law };
+}
+
+impl$shaped EncodeMany<$name> for ${simple}Encoder {
+    fn encode_part_of_each<S, W: Part<S, $name>>(&mut self, items: &[S], which: &W, first: &$name) -> Result<(), Error> {
+        EncodeMany::<$name>::encode_part_of_each(&mut self.fields, items, which, first)
+    }
 }
 
 impl$shaped HasEncoder for $name {

@@ -21,7 +21,9 @@
 #![tactic(auto)]
 
 pub use bitcode_coder::bool::{BoolDecoder, BoolEncoder};
-pub use bitcode_coder::coder::{Decoder, Encoder, HoldsData, MAX_VECTORED_CHUNK, NewDecoder, View};
+pub use bitcode_coder::coder::{
+    Decoder, EncodeMany, Encoder, HoldsData, MAX_VECTORED_CHUNK, NewDecoder, View,
+};
 pub use bitcode_coder::length::{Len, LengthDecoder, LengthEncoder};
 pub use bitcode_coder::str::{ArrayStringDecoder, StrDecoder, StrEncoder};
 pub use bitcode_columns::byte::Byte;
@@ -141,7 +143,9 @@ pub mod own {
 /// The traits of coders, the result type of their calls, calls that write one value, what a decoder tells about
 /// elements without columns, and `both`, which combines the results of two reads.
 pub mod coder {
-    pub use bitcode_coder::coder::{Buffer, Decoder, Encoder, HoldsData, NewDecoder, View, both};
+    pub use bitcode_coder::coder::{
+        Buffer, Decoder, EncodeMany, Encoder, HoldsData, NewDecoder, View, both,
+    };
     pub use bitcode_coder::column_free::ColumnFree;
     pub use bitcode_coder::one::{write_length, write_one};
     pub use bitcode_coder::result::Result;

@@ -14,7 +14,7 @@ ghost use Rattle.bitcode_coder.specs.Coder.{IsReadingRefusal};
 ghost use Rattle.bitcode_coder.specs.FirstFault.{IsFirstFault};
 ghost use Rattle.bitcode_coder.specs.Strict.{JudgesData};
 
-use crate::coder::{Buffer, Decoder, Encoder, HoldsData, NewDecoder, View};
+use crate::coder::{Buffer, Decoder, EncodeMany, Encoder, HoldsData, NewDecoder, View};
 use crate::column_free::ColumnFree;
 use crate::part::Part;
 use bitcode_columns::pack::pack_bools;
@@ -95,17 +95,6 @@ impl Encoder<bool> for BoolEncoder {
         Ok(true)
     }
 
-    fn encode_part_of_each<S, W: Part<S, bool>>(
-        &mut self,
-        items: &[S],
-        which: &W,
-        _first: &bool,
-    ) -> Result<(), Error> {
-        let values = replace(&mut self.values, FastVec::new(self.alloc));
-        self.values = push_parts(items, which, values);
-        Ok(())
-    }
-
     fn is_primitive() -> bool {
         true
     }
@@ -118,6 +107,19 @@ impl Encoder<bool> for BoolEncoder {
     ghost of_shape = { λ e. refl };
 
     ghost surely = { λ e n never. absurd never };
+}
+
+impl EncodeMany<bool> for BoolEncoder {
+    fn encode_part_of_each<S, W: Part<S, bool>>(
+        &mut self,
+        items: &[S],
+        which: &W,
+        _first: &bool,
+    ) -> Result<(), Error> {
+        let values = replace(&mut self.values, FastVec::new(self.alloc));
+        self.values = push_parts(items, which, values);
+        Ok(())
+    }
 }
 
 /// The column that bools are read from.

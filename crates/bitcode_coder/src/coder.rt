@@ -157,38 +157,9 @@ pub trait Encoder<T: Shaped>: Buffer {
             (Self.columns self.old))) }
         ensures free { IsTrue writes_free → IfErr result (λ e. e.reason ≢ Reason.OutOfMemory) }
     {
-        self.encode_part_of_each(values, &Behind, values[0])
-    }
-
-    /// Adds a part of each of 1 to [`MAX_VECTORED_CHUNK`] items to the columns, as calls of [`Encoder::encode`] would.
-    /// The caller must have reserved room for them.
-    ///
-    /// Errors: those of `encode`. Some of the first parts may have been added by then. Encoders that write many values
-    /// at once override it. `_first` is the first part or any other value of `T`. It is there only because the
-    /// toolchain needs an argument of the type to know its layout.
-    fn encode_part_of_each<S, W: Part<S, T>>(
-        &mut self,
-        items: &[S],
-        which: &W,
-        _first: &T,
-    ) -> Result<(), Error>
-        requires chunk { (0 < length items.now) × (length items.now ≤ MAX_VECTORED_CHUNK) }
-        requires room { length items.now ≤ Self.room self.old }
-        ensures joined { OnOk result
-            (JoinsEach T.data.lists T.data.shape (map (W.of which.now) items.now)
-            (Self.columns self.old)
-            (Self.columns self.new)) }
-        ensures room { OnOk result (Self.room self.old ≤ Self.room self.new + length items.now) }
-        ensures form { emptied (Self.columns self.new) ≡ emptied (Self.columns self.old) }
-        ensures refused { IfErr result
-            (λ e. IsWritingRefusal e.reason
-            (OverflowsWithEach T.data.lists T.data.shape (map (W.of which.now) items.now)
-            (Self.columns self.old))) }
-        ensures free { IsTrue writes_free → IfErr result (λ e. e.reason ≢ Reason.OutOfMemory) }
-    {
-        told_parts(items, which);
-        for item in items {
-            self.encode(which.part(item))?;
+        told_parts(values, &Behind);
+        for value in values {
+            self.encode(value)?;
         }
         Ok(())
     }
@@ -221,11 +192,8 @@ pub trait Encoder<T: Shaped>: Buffer {
         ensures none { length items.now ≡ 0 → IsOk result }
     {
         told_each(items);
-        let mut rest = items;
-        while !rest.is_empty() {
-            let (front, behind) = rest.split_at(rest.len().min(MAX_VECTORED_CHUNK));
-            self.encode_part_of_each(front, &Itself, &front[0])?;
-            rest = behind;
+        for item in items {
+            self.encode(item)?;
         }
         Ok(())
     }
@@ -252,6 +220,75 @@ pub trait Encoder<T: Shaped>: Buffer {
 
     ghost surely: { (e : Self) (n : ℕ) → Self.surely_overflows e n
         → SurelyOverflows T.data.shape (Self.columns e) n };
+}
+
+/// Encoders that add a part of each of many items.
+///
+/// It is a trait of its own, since a function with a bounded type parameter makes the checker repeat its work for each
+/// other function of its trait.
+pub trait EncodeMany<T: Shaped>: Encoder<T> {
+    /// Adds a part of each of 1 to [`MAX_VECTORED_CHUNK`] items to the columns, as calls of [`Encoder::encode`] would.
+    /// The caller must have reserved room for them.
+    ///
+    /// Errors: those of `encode`. Some of the first parts may have been added by then. Encoders that write many values
+    /// at once override it. `_first` is the first part or any other value of `T`. It is there only because the
+    /// toolchain needs an argument of the type to know its layout.
+    fn encode_part_of_each<S, W: Part<S, T>>(
+        &mut self,
+        items: &[S],
+        which: &W,
+        _first: &T,
+    ) -> Result<(), Error>
+        requires chunk { (0 < length items.now) × (length items.now ≤ MAX_VECTORED_CHUNK) }
+        requires room { length items.now ≤ Self.room self.old }
+        ensures joined { OnOk result
+            (JoinsEach T.data.lists T.data.shape (map (W.of which.now) items.now)
+            (Self.columns self.old)
+            (Self.columns self.new)) }
+        ensures room { OnOk result (Self.room self.old ≤ Self.room self.new + length items.now) }
+        ensures form { emptied (Self.columns self.new) ≡ emptied (Self.columns self.old) }
+        ensures refused { IfErr result
+            (λ e. IsWritingRefusal e.reason
+            (OverflowsWithEach T.data.lists T.data.shape (map (W.of which.now) items.now)
+            (Self.columns self.old))) }
+        ensures free { IsTrue Self.writes_free → IfErr result (λ e. e.reason ≢ Reason.OutOfMemory) }
+    {
+        told_parts(items, which);
+        for item in items {
+            self.encode(which.part(item))?;
+        }
+        Ok(())
+    }
+}
+
+/// Adds the values of a slice to the columns, up to [`MAX_VECTORED_CHUNK`] at a time. The caller must have reserved room
+/// for them.
+///
+/// Errors: those of [`Encoder::encode`]. Some of the first values may have been added by then.
+pub fn encode_in_chunks<T: Shaped, E: EncodeMany<T>>(
+    encoder: &mut E,
+    items: &[T],
+) -> Result<(), Error>
+    requires { length items.now ≤ E.room encoder.old }
+    ensures joined { OnOk result
+        (JoinsEach T.data.lists T.data.shape items.now (E.columns encoder.old)
+        (E.columns encoder.new)) }
+    ensures room { OnOk result (E.room encoder.old ≤ E.room encoder.new + length items.now) }
+    ensures form { emptied (E.columns encoder.new) ≡ emptied (E.columns encoder.old) }
+    ensures refused { IfErr result
+        (λ e. IsWritingRefusal e.reason
+        (OverflowsWithEach T.data.lists T.data.shape items.now (E.columns encoder.old))) }
+    ensures free { IsTrue E.writes_free → IfErr result (λ e. e.reason ≢ Reason.OutOfMemory) }
+    ensures none { length items.now ≡ 0 → IsOk result }
+{
+    told_each(items);
+    let mut rest = items;
+    while !rest.is_empty() {
+        let (front, behind) = rest.split_at(rest.len().min(MAX_VECTORED_CHUNK));
+        encoder.encode_part_of_each(front, &Itself, &front[0])?;
+        rest = behind;
+    }
+    Ok(())
 }
 
 /// The data of a decoder, in terms of which the contracts of [`NewDecoder`], [`View`] and [`Decoder`] are stated.

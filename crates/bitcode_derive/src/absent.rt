@@ -6,7 +6,7 @@ ghost use Rattle.bitcode_coder.specs.Columns.{no_columns};
 ghost use Rattle.bitcode_coder.specs.Coder.{endless_room};
 
 use crate::derive::{DecodeOwned, HasDecoder, HasEncoder};
-use bitcode_coder::coder::{Buffer, Decoder, Encoder, HoldsData, NewDecoder, View};
+use bitcode_coder::coder::{Buffer, Decoder, EncodeMany, Encoder, HoldsData, NewDecoder, View};
 use bitcode_coder::column_free::ColumnFree;
 use bitcode_memory::error::{Error, Reason};
 use bitcode_memory::refuse::err;
@@ -59,6 +59,8 @@ impl<T: NoVariants> Encoder<Absent<T>> for AbsentEncoder {
 
     ghost surely = { λ e n h. absurd h };
 }
+
+impl<T: NoVariants> EncodeMany<Absent<T>> for AbsentEncoder {}
 
 /// The decoder of a type without values. Reading one or more values is the error `invalid enum variant`.
 ///

@@ -1,5 +1,5 @@
 //! The types with encoders and decoders.
-use bitcode_coder::coder::{Buffer, Decoder, Encoder, NewDecoder, View};
+use bitcode_coder::coder::{Buffer, Decoder, EncodeMany, NewDecoder, View};
 use bitcode_shapes::shaped::Shaped;
 
 /// Names the encoder of a type.
@@ -20,11 +20,11 @@ pub trait HasEncoder {
 /// A type that can be encoded: every lawful type whose encoder accepts its values.
 ///
 /// It has no impls of its own. The calls that encode whole values drop the encoder.
-pub trait Encode: HasEncoder<Encoder: Encoder<Self> + Drop> + Shaped {}
+pub trait Encode: HasEncoder<Encoder: EncodeMany<Self> + Drop> + Shaped {}
 
 impl<T: HasEncoder + Shaped> Encode for T
 where
-    T::Encoder: Encoder<T> + Drop,
+    T::Encoder: EncodeMany<T> + Drop,
 {}
 
 /// Names the decoder of a type, for an input that outlives `'a`.

@@ -10,7 +10,7 @@ ghost use Rattle.bitcode_coder.specs.Columns.{lengths, one, two};
 ghost use Rattle.bitcode_coder.specs.Length.{written_lengths, length_room, length_capacity, lengths_sum};
 ghost use Rattle.bitcode_coder.specs.Spelling.{natural};
 
-use bitcode_coder::coder::{Buffer, Decoder, Encoder, HoldsData, NewDecoder, View};
+use bitcode_coder::coder::{Buffer, Decoder, EncodeMany, Encoder, HoldsData, NewDecoder, View};
 use bitcode_coder::column_free::ColumnFree;
 use bitcode_coder::length::LengthEncoder;
 use bitcode_memory::error::{Error, Reason};
@@ -79,7 +79,7 @@ impl<K: Buffer, V: Buffer> Buffer for MapEncoder<K, V> {
     }
 }
 
-impl<M: Mapping, K: Encoder<M::Key>, V: Encoder<M::Value>> Encoder<M> for MapEncoder<K, V> {
+impl<M: Mapping, K: EncodeMany<M::Key>, V: EncodeMany<M::Value>> Encoder<M> for MapEncoder<K, V> {
     ghost writes_free = { false };
 
     fn encode(&mut self, t: &M) -> Result<(), Error> {
@@ -97,6 +97,9 @@ impl<M: Mapping, K: Encoder<M::Key>, V: Encoder<M::Value>> Encoder<M> for MapEnc
 
     ghost surely = { λ e n never. absurd never };
 }
+
+impl<M: Mapping, K: EncodeMany<M::Key>, V: EncodeMany<M::Value>> EncodeMany<M>
+    for MapEncoder<K, V> {}
 
 /// The decoder of maps. It reads the lengths of all maps, and then all keys and all values.
 ///

@@ -11,7 +11,7 @@ use crate::enums::{Enum, EnumOf};
 use crate::number::At;
 use crate::payload_columns::PayloadColumns;
 use crate::writes::WritesVariants;
-use bitcode_coder::coder::{Buffer, Encoder, MAX_VECTORED_CHUNK};
+use bitcode_coder::coder::{Buffer, EncodeMany, Encoder, MAX_VECTORED_CHUNK};
 use bitcode_coder::part::{Part, told_parts};
 use bitcode_memory::error::Error;
 use bitcode_parts::choices::gathered::{SaysVariant, gather_variants};
@@ -90,6 +90,22 @@ impl<const N: usize, C: VariantColumns, T: EnumOf<N> + WritesVariants<At<0>, At<
         self.payloads.encode_payload::<N, T>(t)
     }
 
+    fn is_primitive() -> bool {
+        false
+    }
+
+    ghost of_shape = { λ e. enum_of_shape T.each.variants.shapes T.data.shape N
+        (all_columns (C.columns.lists e.payloads.columns)) T.counted.0 T.counted.1
+        (each_has_payloads T.each.variants.shapes (C.columns.lists e.payloads.columns)
+        (whole_form T.each.variants.shapes N (C.columns.lists e.payloads.columns) T.counted.0
+        (T.are_columns e.payloads.columns)) 0) };
+
+    ghost surely = { λ e n h. absurd h };
+}
+
+impl<const N: usize, C: VariantColumns, T: EnumOf<N> + WritesVariants<At<0>, At<N>, C>> EncodeMany<
+    T,
+> for EnumEncoder<N, C> {
     fn encode_part_of_each<I, W: Part<I, T>>(
         &mut self,
         items: &[I],
@@ -105,16 +121,4 @@ impl<const N: usize, C: VariantColumns, T: EnumOf<N> + WritesVariants<At<0>, At<
         }
         Ok(())
     }
-
-    fn is_primitive() -> bool {
-        false
-    }
-
-    ghost of_shape = { λ e. enum_of_shape T.each.variants.shapes T.data.shape N
-        (all_columns (C.columns.lists e.payloads.columns)) T.counted.0 T.counted.1
-        (each_has_payloads T.each.variants.shapes (C.columns.lists e.payloads.columns)
-        (whole_form T.each.variants.shapes N (C.columns.lists e.payloads.columns) T.counted.0
-        (T.are_columns e.payloads.columns)) 0) };
-
-    ghost surely = { λ e n h. absurd h };
 }

@@ -14,7 +14,7 @@ ghost use Rattle.bitcode_coder.specs.FirstFault.{IsFirstFault};
 ghost use Rattle.bitcode_coder.specs.Strict.{JudgesData};
 ghost use Rattle.bitcode_floats.specs.Floats.{data_of_floats, data_of_bits};
 
-use bitcode_coder::coder::{Buffer, Decoder, Encoder, HoldsData, NewDecoder, View};
+use bitcode_coder::coder::{Buffer, Decoder, EncodeMany, Encoder, HoldsData, NewDecoder, View};
 use bitcode_coder::column_free::ColumnFree;
 use bitcode_coder::part::Part;
 use bitcode_float_columns::split::{SplitBits, pack_f32s, read_f32s};
@@ -98,17 +98,6 @@ impl Encoder<f32> for F32Encoder {
         Ok(true)
     }
 
-    fn encode_part_of_each<S, W: Part<S, f32>>(
-        &mut self,
-        items: &[S],
-        which: &W,
-        _first: &f32,
-    ) -> Result<(), Error> {
-        let values = replace(&mut self.values, FastVec::new(self.alloc));
-        self.values = push_parts(items, which, values);
-        Ok(())
-    }
-
     fn is_primitive() -> bool {
         true
     }
@@ -126,6 +115,19 @@ impl Encoder<f32> for F32Encoder {
     ghost of_shape = { λ e. refl };
 
     ghost surely = { λ e n never. absurd never };
+}
+
+impl EncodeMany<f32> for F32Encoder {
+    fn encode_part_of_each<S, W: Part<S, f32>>(
+        &mut self,
+        items: &[S],
+        which: &W,
+        _first: &f32,
+    ) -> Result<(), Error> {
+        let values = replace(&mut self.values, FastVec::new(self.alloc));
+        self.values = push_parts(items, which, values);
+        Ok(())
+    }
 }
 
 /// The column that `f32`s are read from. It borrows the input.

@@ -15,7 +15,9 @@ ghost use Rattle.bitcode_coder.specs.Strict.{JudgesData};
 ghost use Rattle.bitcode_floats.specs.Floats.{data_of_bits, long_bits, residue_of};
 
 use crate::direct::{keep_whole_width, write_whole};
-use bitcode_coder::coder::{Buffer, Decoder, Encoder, HoldsData, NewDecoder, View, both};
+use bitcode_coder::coder::{
+    Buffer, Decoder, EncodeMany, Encoder, HoldsData, NewDecoder, View, both,
+};
 use bitcode_coder::column_free::ColumnFree;
 use bitcode_coder::part::{Itself, Part};
 use bitcode_float_columns::bits::{bits_of_f64s, is_canonical_f64};
@@ -132,17 +134,6 @@ impl Encoder<f64> for F64Encoder {
         Ok(true)
     }
 
-    fn encode_part_of_each<S, W: Part<S, f64>>(
-        &mut self,
-        items: &[S],
-        which: &W,
-        _first: &f64,
-    ) -> Result<(), Error> {
-        let bits = replace(&mut self.bits, FastVec::new(self.alloc));
-        self.bits = push_parts(items, which, bits);
-        Ok(())
-    }
-
     fn is_primitive() -> bool {
         true
     }
@@ -164,6 +155,19 @@ impl Encoder<f64> for F64Encoder {
     ghost of_shape = { λ e. refl };
 
     ghost surely = { λ e n never. absurd never };
+}
+
+impl EncodeMany<f64> for F64Encoder {
+    fn encode_part_of_each<S, W: Part<S, f64>>(
+        &mut self,
+        items: &[S],
+        which: &W,
+        _first: &f64,
+    ) -> Result<(), Error> {
+        let bits = replace(&mut self.bits, FastVec::new(self.alloc));
+        self.bits = push_parts(items, which, bits);
+        Ok(())
+    }
 }
 
 // The bits whose bytes these are, the lowest first.

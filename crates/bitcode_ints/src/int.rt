@@ -18,7 +18,7 @@ ghost use Rattle.bitcode_coder.specs.ColumnFree.{free_count, saturated};
 ghost use Rattle.bitcode_coder.specs.Strict.{JudgesData};
 ghost use Rattle.bitcode_ints.specs.Int.{int_data, bytes_data, PushesInts, WritesInts, ReadsInt};
 
-use bitcode_coder::coder::{Buffer, Decoder, Encoder, HoldsData, NewDecoder, View};
+use bitcode_coder::coder::{Buffer, Decoder, EncodeMany, Encoder, HoldsData, NewDecoder, View};
 use bitcode_coder::column_free::ColumnFree;
 use bitcode_coder::part::Part;
 use bitcode_int_columns::column_int::ColumnInt;
@@ -226,17 +226,6 @@ impl<I: ColumnInt, P: AsInt<I>> Encoder<P> for IntEncoder<I> {
         Ok(true)
     }
 
-    fn encode_part_of_each<S, W: Part<S, P>>(
-        &mut self,
-        items: &[S],
-        which: &W,
-        _first: &P,
-    ) -> Result<(), Error> {
-        let ints = replace(&mut self.values, FastVec::new(self.alloc));
-        self.values = push_parts(items, which, ints);
-        Ok(())
-    }
-
     fn is_primitive() -> bool {
         true
     }
@@ -253,6 +242,19 @@ impl<I: ColumnInt, P: AsInt<I>> Encoder<P> for IntEncoder<I> {
     ghost of_shape = { λ e. sym (P.as_int_columns []) };
 
     ghost surely = { λ e n never. absurd never };
+}
+
+impl<I: ColumnInt, P: AsInt<I>> EncodeMany<P> for IntEncoder<I> {
+    fn encode_part_of_each<S, W: Part<S, P>>(
+        &mut self,
+        items: &[S],
+        which: &W,
+        _first: &P,
+    ) -> Result<(), Error> {
+        let ints = replace(&mut self.values, FastVec::new(self.alloc));
+        self.values = push_parts(items, which, ints);
+        Ok(())
+    }
 }
 
 // The integers of these bytes.

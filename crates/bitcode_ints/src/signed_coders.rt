@@ -4,7 +4,7 @@ ghost use Rattle.std.specs.Prelude.{refl, IfSome};
 ghost use Rattle.bitcode_coder.specs.Coder.{ReadsValue, ReadsValues};
 
 use crate::int::{IntDecoder, IntEncoder};
-use bitcode_coder::coder::{Buffer, Decoder, Encoder, HoldsData, NewDecoder, View};
+use bitcode_coder::coder::{Buffer, Decoder, EncodeMany, Encoder, HoldsData, NewDecoder, View};
 use bitcode_coder::column_free::ColumnFree;
 use bitcode_coder::direct::{list_by_decoder, one_by_decoder};
 use bitcode_coder::part::Part;
@@ -66,15 +66,6 @@ impl Encoder<i8> for I8Encoder {
         self.column.write_directly(t, out)
     }
 
-    fn encode_part_of_each<S, W: Part<S, i8>>(
-        &mut self,
-        items: &[S],
-        which: &W,
-        first: &i8,
-    ) -> Result<(), Error> {
-        self.column.encode_part_of_each(items, which, first)
-    }
-
     fn is_primitive() -> bool {
         <IntEncoder<i8> as Encoder<i8>>::is_primitive()
     }
@@ -90,6 +81,17 @@ impl Encoder<i8> for I8Encoder {
     ghost of_shape = { λ e. refl };
 
     ghost surely = { λ e n never. absurd never };
+}
+
+impl EncodeMany<i8> for I8Encoder {
+    fn encode_part_of_each<S, W: Part<S, i8>>(
+        &mut self,
+        items: &[S],
+        which: &W,
+        first: &i8,
+    ) -> Result<(), Error> {
+        self.column.encode_part_of_each(items, which, first)
+    }
 }
 
 /// The column that values of `i8` are read from, as from `IntDecoder<i8>`.
@@ -224,15 +226,6 @@ impl Encoder<i16> for I16Encoder {
         self.column.write_directly(t, out)
     }
 
-    fn encode_part_of_each<S, W: Part<S, i16>>(
-        &mut self,
-        items: &[S],
-        which: &W,
-        first: &i16,
-    ) -> Result<(), Error> {
-        self.column.encode_part_of_each(items, which, first)
-    }
-
     fn is_primitive() -> bool {
         <IntEncoder<i16> as Encoder<i16>>::is_primitive()
     }
@@ -248,6 +241,17 @@ impl Encoder<i16> for I16Encoder {
     ghost of_shape = { λ e. refl };
 
     ghost surely = { λ e n never. absurd never };
+}
+
+impl EncodeMany<i16> for I16Encoder {
+    fn encode_part_of_each<S, W: Part<S, i16>>(
+        &mut self,
+        items: &[S],
+        which: &W,
+        first: &i16,
+    ) -> Result<(), Error> {
+        self.column.encode_part_of_each(items, which, first)
+    }
 }
 
 /// The column that values of `i16` are read from, as from `IntDecoder<i16>`.
@@ -382,15 +386,6 @@ impl Encoder<i32> for I32Encoder {
         self.column.write_directly(t, out)
     }
 
-    fn encode_part_of_each<S, W: Part<S, i32>>(
-        &mut self,
-        items: &[S],
-        which: &W,
-        first: &i32,
-    ) -> Result<(), Error> {
-        self.column.encode_part_of_each(items, which, first)
-    }
-
     fn is_primitive() -> bool {
         <IntEncoder<i32> as Encoder<i32>>::is_primitive()
     }
@@ -406,6 +401,17 @@ impl Encoder<i32> for I32Encoder {
     ghost of_shape = { λ e. refl };
 
     ghost surely = { λ e n never. absurd never };
+}
+
+impl EncodeMany<i32> for I32Encoder {
+    fn encode_part_of_each<S, W: Part<S, i32>>(
+        &mut self,
+        items: &[S],
+        which: &W,
+        first: &i32,
+    ) -> Result<(), Error> {
+        self.column.encode_part_of_each(items, which, first)
+    }
 }
 
 /// The column that values of `i32` are read from, as from `IntDecoder<i32>`.
@@ -540,15 +546,6 @@ impl Encoder<i64> for I64Encoder {
         self.column.write_directly(t, out)
     }
 
-    fn encode_part_of_each<S, W: Part<S, i64>>(
-        &mut self,
-        items: &[S],
-        which: &W,
-        first: &i64,
-    ) -> Result<(), Error> {
-        self.column.encode_part_of_each(items, which, first)
-    }
-
     fn is_primitive() -> bool {
         <IntEncoder<i64> as Encoder<i64>>::is_primitive()
     }
@@ -564,6 +561,17 @@ impl Encoder<i64> for I64Encoder {
     ghost of_shape = { λ e. refl };
 
     ghost surely = { λ e n never. absurd never };
+}
+
+impl EncodeMany<i64> for I64Encoder {
+    fn encode_part_of_each<S, W: Part<S, i64>>(
+        &mut self,
+        items: &[S],
+        which: &W,
+        first: &i64,
+    ) -> Result<(), Error> {
+        self.column.encode_part_of_each(items, which, first)
+    }
 }
 
 /// The column that values of `i64` are read from, as from `IntDecoder<i64>`.
@@ -698,15 +706,6 @@ impl Encoder<i128> for I128Encoder {
         self.column.write_directly(t, out)
     }
 
-    fn encode_part_of_each<S, W: Part<S, i128>>(
-        &mut self,
-        items: &[S],
-        which: &W,
-        first: &i128,
-    ) -> Result<(), Error> {
-        self.column.encode_part_of_each(items, which, first)
-    }
-
     fn is_primitive() -> bool {
         <IntEncoder<i128> as Encoder<i128>>::is_primitive()
     }
@@ -722,6 +721,17 @@ impl Encoder<i128> for I128Encoder {
     ghost of_shape = { λ e. refl };
 
     ghost surely = { λ e n never. absurd never };
+}
+
+impl EncodeMany<i128> for I128Encoder {
+    fn encode_part_of_each<S, W: Part<S, i128>>(
+        &mut self,
+        items: &[S],
+        which: &W,
+        first: &i128,
+    ) -> Result<(), Error> {
+        self.column.encode_part_of_each(items, which, first)
+    }
 }
 
 /// The column that values of `i128` are read from, as from `IntDecoder<i128>`.
@@ -856,15 +866,6 @@ impl Encoder<isize> for IsizeEncoder {
         self.column.write_directly(t, out)
     }
 
-    fn encode_part_of_each<S, W: Part<S, isize>>(
-        &mut self,
-        items: &[S],
-        which: &W,
-        first: &isize,
-    ) -> Result<(), Error> {
-        self.column.encode_part_of_each(items, which, first)
-    }
-
     fn is_primitive() -> bool {
         <IntEncoder<isize> as Encoder<isize>>::is_primitive()
     }
@@ -880,6 +881,17 @@ impl Encoder<isize> for IsizeEncoder {
     ghost of_shape = { λ e. refl };
 
     ghost surely = { λ e n never. absurd never };
+}
+
+impl EncodeMany<isize> for IsizeEncoder {
+    fn encode_part_of_each<S, W: Part<S, isize>>(
+        &mut self,
+        items: &[S],
+        which: &W,
+        first: &isize,
+    ) -> Result<(), Error> {
+        self.column.encode_part_of_each(items, which, first)
+    }
 }
 
 /// The column that values of `isize` are read from, as from `IntDecoder<isize>`.

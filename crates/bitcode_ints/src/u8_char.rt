@@ -5,7 +5,7 @@ ghost use Rattle.bitcode_coder.specs.Columns.{raws, one};
 ghost use Rattle.bitcode_ints.specs.U8Char.{raw_data};
 ghost use Rattle.bitcode_coder.specs.Spelling.{natural};
 
-use bitcode_coder::coder::{Buffer, Encoder};
+use bitcode_coder::coder::{Buffer, EncodeMany, Encoder};
 use bitcode_coder::part::{Itself, Part};
 use bitcode_memory::error::Error;
 use bitcode_memory::fast::{FastVec, PushUnchecked};
@@ -97,17 +97,6 @@ impl Encoder<U8Char> for U8CharEncoder {
         Ok(())
     }
 
-    fn encode_part_of_each<S, W: Part<S, U8Char>>(
-        &mut self,
-        items: &[S],
-        which: &W,
-        _first: &U8Char,
-    ) -> Result<(), Error> {
-        let bytes = replace(&mut self.bytes, FastVec::new(self.alloc));
-        self.bytes = push_parts(items, which, bytes);
-        Ok(())
-    }
-
     fn is_primitive() -> bool {
         true
     }
@@ -121,4 +110,17 @@ impl Encoder<U8Char> for U8CharEncoder {
     ghost of_shape = { λ e. refl };
 
     ghost surely = { λ e n never. absurd never };
+}
+
+impl EncodeMany<U8Char> for U8CharEncoder {
+    fn encode_part_of_each<S, W: Part<S, U8Char>>(
+        &mut self,
+        items: &[S],
+        which: &W,
+        _first: &U8Char,
+    ) -> Result<(), Error> {
+        let bytes = replace(&mut self.bytes, FastVec::new(self.alloc));
+        self.bytes = push_parts(items, which, bytes);
+        Ok(())
+    }
 }

@@ -4,7 +4,7 @@ ghost use Rattle.std.specs.Prelude.{refl, IfSome};
 ghost use Rattle.bitcode_coder.specs.Coder.{ReadsValue, ReadsValues};
 
 use crate::int::{IntDecoder, IntEncoder};
-use bitcode_coder::coder::{Buffer, Decoder, Encoder, HoldsData, NewDecoder, View};
+use bitcode_coder::coder::{Buffer, Decoder, EncodeMany, Encoder, HoldsData, NewDecoder, View};
 use bitcode_coder::column_free::ColumnFree;
 use bitcode_coder::direct::{list_by_decoder, one_by_decoder};
 use bitcode_coder::part::Part;
@@ -66,15 +66,6 @@ impl Encoder<u8> for U8Encoder {
         self.column.write_directly(t, out)
     }
 
-    fn encode_part_of_each<S, W: Part<S, u8>>(
-        &mut self,
-        items: &[S],
-        which: &W,
-        first: &u8,
-    ) -> Result<(), Error> {
-        self.column.encode_part_of_each(items, which, first)
-    }
-
     fn is_primitive() -> bool {
         <IntEncoder<u8> as Encoder<u8>>::is_primitive()
     }
@@ -90,6 +81,17 @@ impl Encoder<u8> for U8Encoder {
     ghost of_shape = { λ e. refl };
 
     ghost surely = { λ e n never. absurd never };
+}
+
+impl EncodeMany<u8> for U8Encoder {
+    fn encode_part_of_each<S, W: Part<S, u8>>(
+        &mut self,
+        items: &[S],
+        which: &W,
+        first: &u8,
+    ) -> Result<(), Error> {
+        self.column.encode_part_of_each(items, which, first)
+    }
 }
 
 /// The column that values of `u8` are read from, as from `IntDecoder<u8>`.
@@ -224,15 +226,6 @@ impl Encoder<u16> for U16Encoder {
         self.column.write_directly(t, out)
     }
 
-    fn encode_part_of_each<S, W: Part<S, u16>>(
-        &mut self,
-        items: &[S],
-        which: &W,
-        first: &u16,
-    ) -> Result<(), Error> {
-        self.column.encode_part_of_each(items, which, first)
-    }
-
     fn is_primitive() -> bool {
         <IntEncoder<u16> as Encoder<u16>>::is_primitive()
     }
@@ -248,6 +241,17 @@ impl Encoder<u16> for U16Encoder {
     ghost of_shape = { λ e. refl };
 
     ghost surely = { λ e n never. absurd never };
+}
+
+impl EncodeMany<u16> for U16Encoder {
+    fn encode_part_of_each<S, W: Part<S, u16>>(
+        &mut self,
+        items: &[S],
+        which: &W,
+        first: &u16,
+    ) -> Result<(), Error> {
+        self.column.encode_part_of_each(items, which, first)
+    }
 }
 
 /// The column that values of `u16` are read from, as from `IntDecoder<u16>`.
@@ -382,15 +386,6 @@ impl Encoder<u32> for U32Encoder {
         self.column.write_directly(t, out)
     }
 
-    fn encode_part_of_each<S, W: Part<S, u32>>(
-        &mut self,
-        items: &[S],
-        which: &W,
-        first: &u32,
-    ) -> Result<(), Error> {
-        self.column.encode_part_of_each(items, which, first)
-    }
-
     fn is_primitive() -> bool {
         <IntEncoder<u32> as Encoder<u32>>::is_primitive()
     }
@@ -406,6 +401,17 @@ impl Encoder<u32> for U32Encoder {
     ghost of_shape = { λ e. refl };
 
     ghost surely = { λ e n never. absurd never };
+}
+
+impl EncodeMany<u32> for U32Encoder {
+    fn encode_part_of_each<S, W: Part<S, u32>>(
+        &mut self,
+        items: &[S],
+        which: &W,
+        first: &u32,
+    ) -> Result<(), Error> {
+        self.column.encode_part_of_each(items, which, first)
+    }
 }
 
 /// The column that values of `u32` are read from, as from `IntDecoder<u32>`.
@@ -540,15 +546,6 @@ impl Encoder<u64> for U64Encoder {
         self.column.write_directly(t, out)
     }
 
-    fn encode_part_of_each<S, W: Part<S, u64>>(
-        &mut self,
-        items: &[S],
-        which: &W,
-        first: &u64,
-    ) -> Result<(), Error> {
-        self.column.encode_part_of_each(items, which, first)
-    }
-
     fn is_primitive() -> bool {
         <IntEncoder<u64> as Encoder<u64>>::is_primitive()
     }
@@ -564,6 +561,17 @@ impl Encoder<u64> for U64Encoder {
     ghost of_shape = { λ e. refl };
 
     ghost surely = { λ e n never. absurd never };
+}
+
+impl EncodeMany<u64> for U64Encoder {
+    fn encode_part_of_each<S, W: Part<S, u64>>(
+        &mut self,
+        items: &[S],
+        which: &W,
+        first: &u64,
+    ) -> Result<(), Error> {
+        self.column.encode_part_of_each(items, which, first)
+    }
 }
 
 /// The column that values of `u64` are read from, as from `IntDecoder<u64>`.
@@ -698,15 +706,6 @@ impl Encoder<u128> for U128Encoder {
         self.column.write_directly(t, out)
     }
 
-    fn encode_part_of_each<S, W: Part<S, u128>>(
-        &mut self,
-        items: &[S],
-        which: &W,
-        first: &u128,
-    ) -> Result<(), Error> {
-        self.column.encode_part_of_each(items, which, first)
-    }
-
     fn is_primitive() -> bool {
         <IntEncoder<u128> as Encoder<u128>>::is_primitive()
     }
@@ -722,6 +721,17 @@ impl Encoder<u128> for U128Encoder {
     ghost of_shape = { λ e. refl };
 
     ghost surely = { λ e n never. absurd never };
+}
+
+impl EncodeMany<u128> for U128Encoder {
+    fn encode_part_of_each<S, W: Part<S, u128>>(
+        &mut self,
+        items: &[S],
+        which: &W,
+        first: &u128,
+    ) -> Result<(), Error> {
+        self.column.encode_part_of_each(items, which, first)
+    }
 }
 
 /// The column that values of `u128` are read from, as from `IntDecoder<u128>`.
@@ -856,15 +866,6 @@ impl Encoder<usize> for UsizeEncoder {
         self.column.write_directly(t, out)
     }
 
-    fn encode_part_of_each<S, W: Part<S, usize>>(
-        &mut self,
-        items: &[S],
-        which: &W,
-        first: &usize,
-    ) -> Result<(), Error> {
-        self.column.encode_part_of_each(items, which, first)
-    }
-
     fn is_primitive() -> bool {
         <IntEncoder<usize> as Encoder<usize>>::is_primitive()
     }
@@ -880,6 +881,17 @@ impl Encoder<usize> for UsizeEncoder {
     ghost of_shape = { λ e. refl };
 
     ghost surely = { λ e n never. absurd never };
+}
+
+impl EncodeMany<usize> for UsizeEncoder {
+    fn encode_part_of_each<S, W: Part<S, usize>>(
+        &mut self,
+        items: &[S],
+        which: &W,
+        first: &usize,
+    ) -> Result<(), Error> {
+        self.column.encode_part_of_each(items, which, first)
+    }
 }
 
 /// The column that values of `usize` are read from, as from `IntDecoder<usize>`.

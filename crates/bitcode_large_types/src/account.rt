@@ -5,7 +5,9 @@ ghost use Rattle.bitcode.specs.ByHand.{columns_alike, data_as, field_alike, list
 
 use crate::home::Home;
 use crate::trophy::Trophy;
-use bitcode::coder::{Buffer, ColumnFree, Decoder, Encoder, HoldsData, NewDecoder, View};
+use bitcode::coder::{
+    Buffer, ColumnFree, Decoder, EncodeMany, Encoder, HoldsData, NewDecoder, View,
+};
 use bitcode::own::{DecoderOfFields, HasField, InFields, Nth, Part, PartEncoder, StructEncoder};
 use bitcode::{ConvertFrom, Error, HasDecoder, HasEncoder, Shaped, TupleEncoder};
 use std::alloc::Global;
@@ -949,18 +951,20 @@ impl<'a> Encoder<Account<'a>> for AccountEncoder {
         Encoder::<Account<'a>>::write_directly(&mut self.fields, t, out)
     }
 
+    ghost of_shape = { λ e. refl };
+
+    ghost surely = { λ e n h. absurd h };
+}
+
+impl<'a> EncodeMany<Account<'a>> for AccountEncoder {
     fn encode_part_of_each<S, W: Part<S, Account<'a>>>(
         &mut self,
         items: &[S],
         which: &W,
         first: &Account<'a>,
     ) -> Result<(), Error> {
-        Encoder::<Account<'a>>::encode_part_of_each(&mut self.fields, items, which, first)
+        EncodeMany::<Account<'a>>::encode_part_of_each(&mut self.fields, items, which, first)
     }
-
-    ghost of_shape = { λ e. refl };
-
-    ghost surely = { λ e n h. absurd h };
 }
 
 impl<'a> HasEncoder for Account<'a> {

@@ -2,7 +2,9 @@
 ghost use Rattle.std.specs.Prelude.{◌&&◌, IfSome};
 ghost use Rattle.bitcode.specs.ByHand.{ReadsValue, columns_alike, data_as, field_alike, pair_alike, refl};
 
-use bitcode::coder::{Buffer, ColumnFree, Decoder, Encoder, HoldsData, NewDecoder, View};
+use bitcode::coder::{
+    Buffer, ColumnFree, Decoder, EncodeMany, Encoder, HoldsData, NewDecoder, View,
+};
 use bitcode::own::{DecoderOfFields, HasField, InFields, Nth, Part, StructEncoder};
 use bitcode::{ConvertFrom, DecodeOwned, Error, HasDecoder, HasEncoder, Shaped};
 use std::alloc::Global;
@@ -120,18 +122,20 @@ impl Encoder<Trophy> for TrophyEncoder {
         Encoder::<Trophy>::write_directly(&mut self.fields, t, out)
     }
 
+    ghost of_shape = { λ e. refl };
+
+    ghost surely = { λ e n h. absurd h };
+}
+
+impl EncodeMany<Trophy> for TrophyEncoder {
     fn encode_part_of_each<S, W: Part<S, Trophy>>(
         &mut self,
         items: &[S],
         which: &W,
         first: &Trophy,
     ) -> Result<(), Error> {
-        Encoder::<Trophy>::encode_part_of_each(&mut self.fields, items, which, first)
+        EncodeMany::<Trophy>::encode_part_of_each(&mut self.fields, items, which, first)
     }
-
-    ghost of_shape = { λ e. refl };
-
-    ghost surely = { λ e n h. absurd h };
 }
 
 impl HasEncoder for Trophy {

@@ -5,8 +5,8 @@ ghost use Rattle.bitcode.specs.ByHand.{MakesOfElements, data_as, refl};
 use bitcode::coder::{ColumnFree, HoldsData, NewDecoder, Result};
 use bitcode::own::{FromElements, Sequence, encode_each};
 use bitcode::{
-    DecodeOwned, Decoder, Encoder, HasDecoder, HasEncoder, IntDecoder, IntEncoder, Reason, Shaped,
-    VecDecoder, VecEncoder, View,
+    DecodeOwned, Decoder, EncodeMany, HasDecoder, HasEncoder, IntDecoder, IntEncoder, Reason,
+    Shaped, VecDecoder, VecEncoder, View,
 };
 use std::alloc::Global;
 
@@ -34,7 +34,7 @@ impl Sequence for Scores {
         self.list.len()
     }
 
-    fn encode_elements<E: Encoder<u32>>(&self, elements: &mut E) -> Result<()> {
+    fn encode_elements<E: EncodeMany<u32>>(&self, elements: &mut E) -> Result<()> {
         encode_each(elements, self.list.as_slice())
     }
 

@@ -13,7 +13,7 @@ ghost use Rattle.bitcode_parts.specs.Arrays.{array_room, ArraysOverflow, arrays_
 ghost use Rattle.bitcode_parts.specs.ArrayLaws.{arrays_of_shape, arrays_overflow, same_array_shape};
 
 use crate::lists::sequence::{decode_each, encode_each};
-use bitcode_coder::coder::{Buffer, Decoder, Encoder, HoldsData, NewDecoder, View};
+use bitcode_coder::coder::{Buffer, Decoder, EncodeMany, Encoder, HoldsData, NewDecoder, View};
 use bitcode_coder::column_free::ColumnFree;
 use bitcode_memory::consume::mul_length;
 use bitcode_memory::error::{Error, Reason};
@@ -93,7 +93,7 @@ impl<E: Buffer, const N: usize> Buffer for ArrayEncoder<E, N> {
     }
 }
 
-impl<T: Shaped, E: Encoder<T>, const N: usize> Encoder<[T; N]> for ArrayEncoder<E, N> {
+impl<T: Shaped, E: EncodeMany<T>, const N: usize> Encoder<[T; N]> for ArrayEncoder<E, N> {
     ghost writes_free = { E.writes_free || N == 0 };
 
     fn encode(&mut self, t: &[T; N]) -> Result<(), Error> {
@@ -114,6 +114,8 @@ impl<T: Shaped, E: Encoder<T>, const N: usize> Encoder<[T; N]> for ArrayEncoder<
     ghost surely = { λ e n. arrays_overflow T.data.shape (E.columns e.elements) n N e.count
         (E.surely e.elements (n * N)) };
 }
+
+impl<T: Shaped, E: EncodeMany<T>, const N: usize> EncodeMany<[T; N]> for ArrayEncoder<E, N> {}
 
 /// The decoder of arrays of `N` elements. It reads the elements of all arrays.
 ///

@@ -4,7 +4,7 @@ ghost use Rattle.std.proofs.Common.{sym, ◌∙◌};
 ghost use Rattle.bitcode_coder.specs.Coder.{ListsAsToo, MakesToo};
 ghost use Rattle.bitcode_parts.specs.Convert.{IsWrittenAs, surely_as};
 
-use bitcode_coder::coder::{Buffer, Decoder, Encoder, HoldsData, NewDecoder, View};
+use bitcode_coder::coder::{Buffer, Decoder, EncodeMany, Encoder, HoldsData, NewDecoder, View};
 use bitcode_coder::column_free::ColumnFree;
 use bitcode_memory::error::{Error, Reason};
 use bitcode_shapes::shaped::Shaped;
@@ -118,6 +118,9 @@ impl<T: Shaped + Drop, D: ConvertInto<T>, E: Encoder<T>> Encoder<D> for ConvertI
     ghost surely = { λ e n h. surely_as D.data.shape T.data.shape D.written_as (E.columns e.inner) n
         (E.surely e.inner n h) };
 }
+
+impl<T: Shaped + Drop, D: ConvertInto<T>, E: Encoder<T>> EncodeMany<D>
+    for ConvertIntoEncoder<T, E> {}
 
 /// The data of values that are made from values of `T`, with the decoder `D` of `T`.
 ///

@@ -5,7 +5,7 @@ ghost use Rattle.bitcode_shapes.specs.Shape.{unit_shape};
 ghost use Rattle.bitcode_coder.specs.Columns.{no_columns};
 ghost use Rattle.bitcode_coder.specs.Coder.{endless_room};
 
-use bitcode_coder::coder::{Buffer, Decoder, Encoder, HoldsData, NewDecoder, View};
+use bitcode_coder::coder::{Buffer, Decoder, EncodeMany, Encoder, HoldsData, NewDecoder, View};
 use bitcode_coder::column_free::ColumnFree;
 use bitcode_memory::error::Error;
 use std::alloc::Global;
@@ -56,6 +56,8 @@ impl Encoder<()> for EmptyCoder {
 
     ghost surely = { λ e n h. absurd h };
 }
+
+impl EncodeMany<()> for EmptyCoder {}
 
 impl HoldsData for EmptyCoder {
     ghost shape = { unit_shape };

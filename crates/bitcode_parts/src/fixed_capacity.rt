@@ -12,7 +12,7 @@ ghost use Rattle.bitcode_parts.specs.Lists.{lists_of};
 
 use crate::lists::sequence::{Sequence, encode_each};
 use arrayvec::ArrayVec;
-use bitcode_coder::coder::{Decoder, Encoder, HoldsData, NewDecoder, View, both};
+use bitcode_coder::coder::{Decoder, EncodeMany, HoldsData, NewDecoder, View, both};
 use bitcode_coder::column_free::ColumnFree;
 use bitcode_coder::length::LengthDecoder;
 use bitcode_memory::error::{Error, Reason};
@@ -130,7 +130,7 @@ impl<T: Shaped, const N: usize> Sequence for ArrayVec<T, N> {
         self.len()
     }
 
-    fn encode_elements<E: Encoder<T>>(&self, elements: &mut E) -> Result<(), Error> {
+    fn encode_elements<E: EncodeMany<T>>(&self, elements: &mut E) -> Result<(), Error> {
         encode_each(elements, self.as_slice())
     }
 

@@ -8,7 +8,7 @@ ghost use Rattle.bitcode_shapes.specs.Shape.{seq_shape};
 
 use crate::lists::sequence::{FromElements, Sequence, encode_each};
 use crate::lists::vec::VecDecoder;
-use bitcode_coder::coder::{Decoder, Encoder};
+use bitcode_coder::coder::{Decoder, EncodeMany};
 use bitcode_memory::error::{Error, Reason};
 use bitcode_shapes::shaped::Shaped;
 use std::alloc::Global;
@@ -24,7 +24,7 @@ impl<T: Shaped + Ord> Sequence for BinaryHeap<T> {
         self.len()
     }
 
-    fn encode_elements<E: Encoder<T>>(&self, elements: &mut E) -> Result<(), Error> {
+    fn encode_elements<E: EncodeMany<T>>(&self, elements: &mut E) -> Result<(), Error> {
         encode_each(elements, self.as_slice())
     }
 

@@ -12,7 +12,7 @@ ghost use Rattle.bitcode_coder.specs.Coder.{JoinsEach, OverflowsWithEach, IsWrit
 ghost use Rattle.bitcode_parts.specs.Elements.{MakesOfElements};
 
 use crate::lists::sequence::{FromElements, Lends, encode_lent};
-use bitcode_coder::coder::Encoder;
+use bitcode_coder::coder::EncodeMany;
 use bitcode_coder::part::Part;
 use bitcode_memory::error::{Error, Reason};
 use bitcode_shapes::keys::Key;
@@ -44,7 +44,7 @@ pub trait Mapping: Shaped {
         ensures { result ≡ length (entries self.now) };
 
     /// Writes the keys, one after another. The caller must have reserved room for them.
-    fn encode_keys<E: Encoder<Self::Key>>(&self, keys: &mut E) -> Result<(), Error>
+    fn encode_keys<E: EncodeMany<Self::Key>>(&self, keys: &mut E) -> Result<(), Error>
         requires room { length (entries self.now) ≤ E.room keys.old }
         requires values { All Self.Key.data.is_value (keys_of (entries self.now)) }
         ensures joined { OnOk result
@@ -57,7 +57,7 @@ pub trait Mapping: Shaped {
             (E.columns keys.old))) };
 
     /// Writes the values, in the order of their keys. The caller must have reserved room for them.
-    fn encode_values<E: Encoder<Self::Value>>(&self, values: &mut E) -> Result<(), Error>
+    fn encode_values<E: EncodeMany<Self::Value>>(&self, values: &mut E) -> Result<(), Error>
         requires room { length (entries self.now) ≤ E.room values.old }
         requires values { All Self.Value.data.is_value (values_of (entries self.now)) }
         ensures joined { OnOk result
@@ -75,7 +75,7 @@ pub trait Mapping: Shaped {
     ///
     /// Errors: those of the encoders. Some of the first keys and values may have been written by then. Maps that can do
     /// this in one iteration override it.
-    fn encode_pairs<E: Encoder<Self::Key>, F: Encoder<Self::Value>>(
+    fn encode_pairs<E: EncodeMany<Self::Key>, F: EncodeMany<Self::Value>>(
         &self,
         keys: &mut E,
         values: &mut F,
@@ -190,8 +190,8 @@ fn encode_gathered<
     K: Shaped + 'b,
     V: Shaped + 'b,
     L: LendsPairs<'b, K, V>,
-    E: Encoder<K>,
-    F: Encoder<V>,
+    E: EncodeMany<K>,
+    F: EncodeMany<V>,
 >(mut lent: L, keys: &mut E, values: &mut F) -> Result<(), Error>
     requires room { (length (L.rest lent) ≤ E.room keys.old)
         × (length (L.rest lent) ≤ F.room values.old) }
@@ -231,15 +231,15 @@ impl<K: Key, V: Shaped> Mapping for BTreeMap<K, V> {
         self.len()
     }
 
-    fn encode_keys<E: Encoder<K>>(&self, keys: &mut E) -> Result<(), Error> {
+    fn encode_keys<E: EncodeMany<K>>(&self, keys: &mut E) -> Result<(), Error> {
         encode_lent(keys, self.keys())
     }
 
-    fn encode_values<E: Encoder<V>>(&self, values: &mut E) -> Result<(), Error> {
+    fn encode_values<E: EncodeMany<V>>(&self, values: &mut E) -> Result<(), Error> {
         encode_lent(values, self.values())
     }
 
-    fn encode_pairs<E: Encoder<K>, F: Encoder<V>>(
+    fn encode_pairs<E: EncodeMany<K>, F: EncodeMany<V>>(
         &self,
         keys: &mut E,
         values: &mut F,
@@ -265,15 +265,15 @@ impl<K: Key + Hash, V: Shaped> Mapping for HashMap<K, V> {
         self.len()
     }
 
-    fn encode_keys<E: Encoder<K>>(&self, keys: &mut E) -> Result<(), Error> {
+    fn encode_keys<E: EncodeMany<K>>(&self, keys: &mut E) -> Result<(), Error> {
         encode_lent(keys, self.keys())
     }
 
-    fn encode_values<E: Encoder<V>>(&self, values: &mut E) -> Result<(), Error> {
+    fn encode_values<E: EncodeMany<V>>(&self, values: &mut E) -> Result<(), Error> {
         encode_lent(values, self.values())
     }
 
-    fn encode_pairs<E: Encoder<K>, F: Encoder<V>>(
+    fn encode_pairs<E: EncodeMany<K>, F: EncodeMany<V>>(
         &self,
         keys: &mut E,
         values: &mut F,

@@ -2,7 +2,7 @@
 ghost use Rattle.std.specs.Prelude.{refl, true};
 
 use crate::empty::EmptyCoder;
-use bitcode_coder::coder::{Decoder, Encoder};
+use bitcode_coder::coder::{Decoder, EncodeMany, Encoder};
 use bitcode_memory::error::Error;
 use std::marker::PhantomData;
 
@@ -17,6 +17,8 @@ impl<T> Encoder<PhantomData<T>> for EmptyCoder {
 
     ghost surely = { λ e n h. absurd h };
 }
+
+impl<T> EncodeMany<PhantomData<T>> for EmptyCoder {}
 
 impl<T> Decoder<PhantomData<T>> for EmptyCoder {
     ghost makes_free = { true };

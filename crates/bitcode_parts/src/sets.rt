@@ -7,7 +7,7 @@ ghost use Rattle.bitcode_shapes.specs.Shape.{seq_shape};
 
 use crate::lists::sequence::{FromElements, Lends, Sequence, encode_lent};
 use crate::lists::vec::VecDecoder;
-use bitcode_coder::coder::{Decoder, Encoder};
+use bitcode_coder::coder::{Decoder, EncodeMany};
 use bitcode_memory::error::{Error, Reason};
 use bitcode_shapes::keys::Key;
 use bitcode_shapes::lists::told_each;
@@ -25,7 +25,7 @@ impl<T: Key> Sequence for BTreeSet<T> {
         self.len()
     }
 
-    fn encode_elements<E: Encoder<T>>(&self, elements: &mut E) -> Result<(), Error> {
+    fn encode_elements<E: EncodeMany<T>>(&self, elements: &mut E) -> Result<(), Error> {
         encode_lent(elements, self.iter())
     }
 
@@ -45,7 +45,7 @@ impl<T: Key + Hash> Sequence for HashSet<T> {
         self.len()
     }
 
-    fn encode_elements<E: Encoder<T>>(&self, elements: &mut E) -> Result<(), Error> {
+    fn encode_elements<E: EncodeMany<T>>(&self, elements: &mut E) -> Result<(), Error> {
         encode_lent(elements, self.iter())
     }
 

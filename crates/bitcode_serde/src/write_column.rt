@@ -16,7 +16,7 @@ ghost use Rattle.bitcode_serde.specs.WrittenColumns.{entries_of};
 
 use crate::case::Case;
 use crate::column::{ColumnKind, WrittenColumn, for_leaves};
-use bitcode_coder::coder::{Buffer, Encoder, MAX_VECTORED_CHUNK};
+use bitcode_coder::coder::{Buffer, EncodeMany, Encoder, MAX_VECTORED_CHUNK};
 use bitcode_coder::part::{Behind, told_parts};
 use bitcode_memory::error::{Error, Reason};
 use bitcode_memory::refuse::err;
@@ -83,7 +83,7 @@ fn gather<'b, T: Case>(values: &'b [Value], held: &mut [&'b T; MAX_VECTORED_CHUN
 }
 
 // Writes 1 to 64 values of one case; the first one holds `first`. Room for them was reserved.
-fn join_held<'b, T: Case, E: Encoder<T>>(
+fn join_held<'b, T: Case, E: EncodeMany<T>>(
     column: &mut E,
     values: &'b [Value],
     first: &'b T,
@@ -105,7 +105,7 @@ fn join_held<'b, T: Case, E: Encoder<T>>(
     }
     let held = &held[..values.len()];
     told_parts(held, &Behind);
-    column.encode_vectored(held)
+    column.encode_part_of_each(held, &Behind, first)
 }
 
 // Writes a value of one case. Room for it was reserved.
@@ -149,7 +149,7 @@ fn join_in_turn<T: Case, E: Encoder<T>>(column: &mut E, values: &[Value]) -> Res
 
 // Writes 1 to 64 values of one case. Room for them was reserved.
 #[inline(never)]
-fn join_chunk<T: Case, E: Encoder<T>>(column: &mut E, values: &[Value]) -> Result<(), Error>
+fn join_chunk<T: Case, E: EncodeMany<T>>(column: &mut E, values: &[Value]) -> Result<(), Error>
     requires chunk { (0 < length values.now) × (length values.now ≤ MAX_VECTORED_CHUNK) }
     requires room { length values.now ≤ E.room column.old }
     ensures joined { OnOk result
@@ -192,7 +192,7 @@ fn join_one<T: Case, E: Encoder<T>>(column: &mut E, value: &Value) -> Result<(),
 }
 
 // Makes room for values of one case, and writes them.
-fn join_each<T: Case, E: Encoder<T>>(column: &mut E, values: &[Value]) -> Result<(), Error>
+fn join_each<T: Case, E: EncodeMany<T>>(column: &mut E, values: &[Value]) -> Result<(), Error>
     requires { (e : E) (n : ℕ) → E.surely_overflows e n → ⊥ }
     ensures joined { OnOk result
         (E.columns column.new ≡ beside (E.columns column.old)

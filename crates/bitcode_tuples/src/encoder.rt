@@ -4,7 +4,7 @@ ghost use Rattle.bitcode_coder.specs.Columns.{two};
 ghost use Rattle.bitcode_tuples.specs.PairLaws.{both_of_shape, both_surely};
 
 use crate::fields::FieldsEncoder;
-use bitcode_coder::coder::{Buffer, Encoder};
+use bitcode_coder::coder::{Buffer, EncodeMany, Encoder};
 use bitcode_coder::part::{First, Part, Second, told_parts};
 use bitcode_memory::error::Error;
 use bitcode_shapes::shaped::Shaped;
@@ -69,6 +69,13 @@ impl<P: Shaped, Q: Shaped, A: Encoder<P>, B: Encoder<Q>> Encoder<(P, Q)> for Tup
         Ok(true)
     }
 
+    ghost of_shape = { both_of_shape A.of_shape B.of_shape };
+
+    ghost surely = { both_surely A.surely B.surely };
+}
+
+impl<P: Shaped, Q: Shaped, A: EncodeMany<P>, B: EncodeMany<Q>> EncodeMany<(P, Q)>
+    for TupleEncoder<A, B> {
     fn encode_part_of_each<S, W: Part<S, (P, Q)>>(
         &mut self,
         items: &[S],
@@ -81,8 +88,4 @@ impl<P: Shaped, Q: Shaped, A: Encoder<P>, B: Encoder<Q>> Encoder<(P, Q)> for Tup
             .encode_part_of_each(items, &First::of(which), &first.0)?;
         self.second.encode_part_of_each(items, &second, &first.1)
     }
-
-    ghost of_shape = { both_of_shape A.of_shape B.of_shape };
-
-    ghost surely = { both_surely A.surely B.surely };
 }

@@ -13,7 +13,7 @@ ghost use Rattle.bitcode_tuples.specs.PairLaws.{both_of_shape, both_surely};
 
 use crate::encoder::TupleEncoder;
 use crate::has_field::{FieldIn, HasField, Nothing, Nth};
-use bitcode_coder::coder::{Encoder, MAX_VECTORED_CHUNK};
+use bitcode_coder::coder::{EncodeMany, MAX_VECTORED_CHUNK};
 use bitcode_coder::one::write_one;
 use bitcode_coder::part::Part;
 use bitcode_memory::error::{Error, Reason};
@@ -103,7 +103,7 @@ pub trait PartEncoder<T, K> {
         → SurelyOverflows shape (Self.columns e) n };
 }
 
-impl<const I: usize, T: HasField<I>, E: Encoder<T::Field>> PartEncoder<T, Nth<I>> for E {
+impl<const I: usize, T: HasField<I>, E: EncodeMany<T::Field>> PartEncoder<T, Nth<I>> for E {
     ghost shape = { T.Field.data.shape };
 
     ghost lists = { λ t d. T.Field.data.lists (T.field t) d };
@@ -180,7 +180,7 @@ impl<T, K, L, A: PartEncoder<T, K>, B: PartEncoder<T, L>> PartEncoder<T, (K, L)>
     ghost surely = { both_surely A.surely B.surely };
 }
 
-impl<T, E: Encoder<()>> PartEncoder<T, ()> for E {
+impl<T, E: EncodeMany<()>> PartEncoder<T, ()> for E {
     ghost shape = { ⟦<() as Shaped>⟧.data.shape };
 
     ghost lists = { λ t d. ⟦<() as Shaped>⟧.data.lists tt d };

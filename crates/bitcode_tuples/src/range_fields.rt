@@ -6,7 +6,7 @@ ghost use Rattle.bitcode_tuples.specs.FieldLaws.{columns_alike, field_alike, pai
 use crate::encoder::TupleEncoder;
 use crate::has_field::{HasField, Nth};
 use crate::struct_encoder::InFields;
-use bitcode_coder::coder::{Buffer, Encoder};
+use bitcode_coder::coder::{Buffer, EncodeMany};
 use bitcode_shapes::shaped::Shaped;
 use std::ops::{Range, RangeInclusive};
 
@@ -30,7 +30,7 @@ impl<T: Shaped> HasField<1> for Range<T> {
     }
 }
 
-impl<T: Shaped, A: Encoder<T>, B: Encoder<T>> InFields<TupleEncoder<A, B>> for Range<T> {
+impl<T: Shaped, A: EncodeMany<T>, B: EncodeMany<T>> InFields<TupleEncoder<A, B>> for Range<T> {
     type Numbers = (Nth<0>, Nth<1>);
 
     type Inside = ();
@@ -62,7 +62,8 @@ impl<T: Shaped> HasField<1> for RangeInclusive<T> {
     }
 }
 
-impl<T: Shaped, A: Encoder<T>, B: Encoder<T>> InFields<TupleEncoder<A, B>> for RangeInclusive<T> {
+impl<T: Shaped, A: EncodeMany<T>, B: EncodeMany<T>> InFields<TupleEncoder<A, B>>
+    for RangeInclusive<T> {
     type Numbers = (Nth<0>, Nth<1>);
 
     type Inside = ();

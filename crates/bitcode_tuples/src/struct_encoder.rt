@@ -6,7 +6,7 @@ ghost use Rattle.bitcode_tuples.specs.FieldLaws.{SameColumns, SameListings, stru
 ghost use Rattle.bitcode_tuples.specs.Pairs.{EachListed};
 
 use crate::part_encoder::PartEncoder;
-use bitcode_coder::coder::{Buffer, Encoder};
+use bitcode_coder::coder::{Buffer, EncodeMany, Encoder};
 use bitcode_coder::part::{Part, told_parts};
 use bitcode_memory::error::Error;
 use bitcode_shapes::shaped::Shaped;
@@ -87,6 +87,12 @@ impl<T: InFields<E>, E: Buffer + PartEncoder<T, T::Numbers>> Encoder<T> for Stru
         Ok(true)
     }
 
+    ghost of_shape = { λ e. struct_of_shape T.same_columns E.of_shape e.fields };
+
+    ghost surely = { λ e n h. struct_surely T.same_columns T.of_fields E.surely e.fields n h };
+}
+
+impl<T: InFields<E>, E: Buffer + PartEncoder<T, T::Numbers>> EncodeMany<T> for StructEncoder<E> {
     fn encode_part_of_each<S, W: Part<S, T>>(
         &mut self,
         items: &[S],
@@ -96,10 +102,6 @@ impl<T: InFields<E>, E: Buffer + PartEncoder<T, T::Numbers>> Encoder<T> for Stru
         listed_fields::<T, E, S, W>(items, which);
         self.fields.encode_part_in_each(items, which)
     }
-
-    ghost of_shape = { λ e. struct_of_shape T.same_columns E.of_shape e.fields };
-
-    ghost surely = { λ e n h. struct_surely T.same_columns T.of_fields E.surely e.fields n h };
 }
 
 /// The fields of each item have a listing.

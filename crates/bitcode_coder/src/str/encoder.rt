@@ -10,7 +10,7 @@ ghost use Rattle.bitcode_coder.specs.PushedTexts.{PushesTexts, texts_in};
 ghost use Rattle.bitcode_coder.specs.Length.{written_lengths, length_room, length_capacity};
 ghost use Rattle.bitcode_coder.specs.LengthColumn.{length_bytes};
 
-use crate::coder::{Buffer, Encoder, MAX_VECTORED_CHUNK};
+use crate::coder::{Buffer, EncodeMany, Encoder, MAX_VECTORED_CHUNK};
 use crate::length::LengthEncoder;
 use crate::one::write_length;
 use crate::part::Part;
@@ -283,6 +283,12 @@ impl<P: AsText> Encoder<P> for StrEncoder {
         Ok(true)
     }
 
+    ghost of_shape = { λ e. sym (P.as_text_columns []) };
+
+    ghost surely = { λ e n never. absurd never };
+}
+
+impl<P: AsText> EncodeMany<P> for StrEncoder {
     fn encode_part_of_each<S, W: Part<S, P>>(
         &mut self,
         items: &[S],
@@ -291,8 +297,4 @@ impl<P: AsText> Encoder<P> for StrEncoder {
     ) -> Result<(), Error> {
         self.encode_texts_in(items, which)
     }
-
-    ghost of_shape = { λ e. sym (P.as_text_columns []) };
-
-    ghost surely = { λ e n never. absurd never };
 }

@@ -10,7 +10,7 @@ ghost use Rattle.bitcode_parts.specs.Variants.{written_variants, variant_room, v
 
 use crate::choices::gathered::{SaysVariant, gather_variants};
 use crate::choices::variant::{VariantDecoder, VariantEncoder, read_variant};
-use bitcode_coder::coder::{Buffer, Decoder, Encoder, MAX_VECTORED_CHUNK};
+use bitcode_coder::coder::{Buffer, Decoder, EncodeMany, Encoder, MAX_VECTORED_CHUNK};
 use bitcode_coder::part::Part;
 use bitcode_memory::error::Error;
 use bitcode_shapes::bare_variants::{BareShaped, BareVariants};
@@ -84,6 +84,12 @@ impl<const N: usize, T: BareShaped<N>> Encoder<T> for BareEncoder<N> {
         Ok(())
     }
 
+    ghost of_shape = { λ e. bare_of_shape N (written_variants e.variants) T.has_shape };
+
+    ghost surely = { λ e n h. absurd h };
+}
+
+impl<const N: usize, T: BareShaped<N>> EncodeMany<T> for BareEncoder<N> {
     fn encode_part_of_each<S, W: Part<S, T>>(
         &mut self,
         items: &[S],
@@ -95,10 +101,6 @@ impl<const N: usize, T: BareShaped<N>> Encoder<T> for BareEncoder<N> {
         self.variants.encode_vectored(&variants[..items.len()]);
         Ok(())
     }
-
-    ghost of_shape = { λ e. bare_of_shape N (written_variants e.variants) T.has_shape };
-
-    ghost surely = { λ e n h. absurd h };
 }
 
 impl<'a, const N: usize, const C_STYLE: bool, T: BareShaped<N>> Decoder<T>

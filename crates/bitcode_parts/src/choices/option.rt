@@ -12,7 +12,7 @@ use crate::choices::option::gathered::{OptionVariant, encode_values};
 use crate::choices::variant::{VariantDecoder, VariantEncoder, encode_payload};
 use crate::empty::EmptyCoder;
 use bitcode_coder::coder::{
-    Buffer, Decoder, Encoder, HoldsData, MAX_VECTORED_CHUNK, NewDecoder, View, both,
+    Buffer, Decoder, EncodeMany, Encoder, HoldsData, MAX_VECTORED_CHUNK, NewDecoder, View, both,
 };
 use bitcode_coder::column_free::ColumnFree;
 use bitcode_coder::one::write_one;
@@ -105,6 +105,12 @@ impl<T: Shaped, E: Encoder<T>> Encoder<Option<T>> for OptionEncoder<E> {
         }
     }
 
+    ghost of_shape = { λ e. two_variants_form refl (E.of_shape e.some) };
+
+    ghost surely = { λ e n h. absurd h };
+}
+
+impl<T: Shaped, E: EncodeMany<T>> EncodeMany<Option<T>> for OptionEncoder<E> {
     fn encode_part_of_each<S, W: Part<S, Option<T>>>(
         &mut self,
         items: &[S],
@@ -116,10 +122,6 @@ impl<T: Shaped, E: Encoder<T>> Encoder<Option<T>> for OptionEncoder<E> {
         self.variants.encode_vectored(&variants[..items.len()]);
         encode_values(&mut self.some, items, which)
     }
-
-    ghost of_shape = { λ e. two_variants_form refl (E.of_shape e.some) };
-
-    ghost surely = { λ e n h. absurd h };
 }
 
 /// The decoder of options. It reads which of them have a value, and then all values.

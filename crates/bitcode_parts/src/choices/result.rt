@@ -8,7 +8,9 @@ ghost use Rattle.bitcode_parts.specs.TwoVariantLaws.{same_two_variants, two_vari
 ghost use Rattle.bitcode_parts.specs.Variants.{variant_room, variant_capacity, variants_left, variants_owned};
 
 use crate::choices::variant::{VariantDecoder, VariantEncoder, encode_payload};
-use bitcode_coder::coder::{Buffer, Decoder, Encoder, HoldsData, NewDecoder, View, both};
+use bitcode_coder::coder::{
+    Buffer, Decoder, EncodeMany, Encoder, HoldsData, NewDecoder, View, both,
+};
 use bitcode_coder::column_free::ColumnFree;
 use bitcode_memory::consume::consume_byte;
 use bitcode_memory::error::Error;
@@ -89,6 +91,9 @@ impl<T: Shaped, E: Shaped, A: Encoder<T>, B: Encoder<E>> Encoder<Result<T, E>>
 
     ghost surely = { λ e n h. absurd h };
 }
+
+impl<T: Shaped, E: Shaped, A: Encoder<T>, B: Encoder<E>> EncodeMany<Result<T, E>>
+    for ResultEncoder<A, B> {}
 
 /// The decoder of results. It reads which of them are errors, then all values, then all errors.
 ///

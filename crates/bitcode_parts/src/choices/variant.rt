@@ -16,8 +16,11 @@ ghost use Rattle.bitcode_coder.specs.FirstFault.{IsFirstFault};
 ghost use Rattle.bitcode_coder.specs.Spelling.{Spells, natural};
 ghost use Rattle.bitcode_coder.specs.Strict.{JudgesData};
 
-use bitcode_coder::coder::{Buffer, Encoder, HoldsData, MAX_VECTORED_CHUNK, NewDecoder, View};
+use bitcode_coder::coder::{
+    Buffer, EncodeMany, Encoder, HoldsData, MAX_VECTORED_CHUNK, NewDecoder, View,
+};
 use bitcode_coder::column_free::ColumnFree;
+use bitcode_coder::part::Behind;
 use bitcode_columns::pack::pack_bytes_less_than;
 use bitcode_columns::strict::read_variants;
 use bitcode_memory::error::Error;
@@ -347,7 +350,7 @@ pub fn encode_payload<T: Shaped, E: Encoder<T>>(encoder: &mut E, t: &T) -> Resul
 /// let mut some: IntEncoder<u8> = IntEncoder::new(alloc);
 /// encode_payloads(&mut some, &[&7, &8])?;
 /// ```
-pub fn encode_payloads<T: Shaped, E: Encoder<T>>(
+pub fn encode_payloads<T: Shaped, E: EncodeMany<T>>(
     encoder: &mut E,
     several: &[&T],
 ) -> Result<(), Error>
@@ -363,5 +366,5 @@ pub fn encode_payloads<T: Shaped, E: Encoder<T>>(
 {
     told_behind(several);
     encoder.reserve(several.len())?;
-    encoder.encode_vectored(several)
+    encoder.encode_part_of_each(several, &Behind, several[0])
 }

@@ -14,7 +14,7 @@ ghost use Rattle.bitcode_coder.specs.Coder.{written_columns, BeginsWith, JoinsEa
 ghost use Rattle.bitcode_coder.specs.Coder.{IsWritingRefusal, TakesEach};
 ghost use Rattle.bitcode_parts.specs.Elements.{MakesOfElements};
 
-use bitcode_coder::coder::{Decoder, Encoder};
+use bitcode_coder::coder::{Decoder, EncodeMany, Encoder, encode_in_chunks};
 use bitcode_memory::error::{Error, Reason};
 use bitcode_shapes::shaped::Shaped;
 use std::alloc::Global;
@@ -106,7 +106,7 @@ pub fn encode_lent<'b, T: Shaped + 'b, L: Lends<'b, T>, E: Encoder<T>>(
 /// encode_each(&mut elements, &[7, 8])?;
 /// assert_eq!(rt; elements.collect(alloc)?.as_slice(), [7, 8].as_slice());
 /// ```
-pub fn encode_each<T: Shaped, E: Encoder<T>>(elements: &mut E, items: &[T]) -> Result<(), Error>
+pub fn encode_each<T: Shaped, E: EncodeMany<T>>(elements: &mut E, items: &[T]) -> Result<(), Error>
     requires { length items.now ≤ E.room elements.old }
     ensures joined { OnOk result
         (JoinsEach T.data.lists T.data.shape items.now (E.columns elements.old)
@@ -119,7 +119,10 @@ pub fn encode_each<T: Shaped, E: Encoder<T>>(elements: &mut E, items: &[T]) -> R
     ensures free { IsTrue E.writes_free → IfErr result (λ e. e.reason ≢ Reason.OutOfMemory) }
     ensures none { length items.now ≡ 0 → IsOk result }
 {
-    elements.encode_slice(items)
+    if E::is_primitive() {
+        return elements.encode_slice(items);
+    }
+    encode_in_chunks(elements, items)
 }
 
 /// Makes `count` values, one after another, with one call of the decoder. At least as many data must be left.
@@ -159,7 +162,7 @@ pub fn decode_each<T: Shaped + Drop, D: Decoder<T>>(
 ///         self.list.len()
 ///     }
 ///
-///     fn encode_elements<E: Encoder<u32>>(&self, elements: &mut E) -> Result<()> {
+///     fn encode_elements<E: EncodeMany<u32>>(&self, elements: &mut E) -> Result<()> {
 ///         encode_each(elements, self.list.as_slice())
 ///     }
 ///     // ..
@@ -178,7 +181,7 @@ pub trait Sequence: Shaped {
     /// Writes the elements, one after another. The caller must have reserved room for them.
     ///
     /// Errors: those of the encoder. Some of the first elements may have been written by then.
-    fn encode_elements<E: Encoder<Self::Element>>(&self, elements: &mut E) -> Result<(), Error>
+    fn encode_elements<E: EncodeMany<Self::Element>>(&self, elements: &mut E) -> Result<(), Error>
         requires room { length (items self.now) ≤ E.room elements.old }
         requires values { All Self.Element.data.is_value (items self.now) }
         ensures joined { OnOk result
@@ -234,7 +237,7 @@ impl<T: Shaped> Sequence for Vec<T> {
         self.len()
     }
 
-    fn encode_elements<E: Encoder<T>>(&self, elements: &mut E) -> Result<(), Error> {
+    fn encode_elements<E: EncodeMany<T>>(&self, elements: &mut E) -> Result<(), Error> {
         encode_each(elements, self.as_slice())
     }
 
@@ -262,7 +265,7 @@ impl<'b, T: Shaped> Sequence for &'b [T] {
         self.len()
     }
 
-    fn encode_elements<E: Encoder<T>>(&self, elements: &mut E) -> Result<(), Error> {
+    fn encode_elements<E: EncodeMany<T>>(&self, elements: &mut E) -> Result<(), Error> {
         encode_each(elements, *self)
     }
 
@@ -290,7 +293,7 @@ impl<T: Shaped> Sequence for VecDeque<T> {
         self.len()
     }
 
-    fn encode_elements<E: Encoder<T>>(&self, elements: &mut E) -> Result<(), Error> {
+    fn encode_elements<E: EncodeMany<T>>(&self, elements: &mut E) -> Result<(), Error> {
         encode_lent(elements, self.iter())
     }
 
@@ -310,7 +313,7 @@ impl<T: Shaped> Sequence for LinkedList<T> {
         self.len()
     }
 
-    fn encode_elements<E: Encoder<T>>(&self, elements: &mut E) -> Result<(), Error> {
+    fn encode_elements<E: EncodeMany<T>>(&self, elements: &mut E) -> Result<(), Error> {
         encode_lent(elements, self.iter())
     }
 

@@ -20,7 +20,7 @@ ghost use Rattle.bitcode_parts.specs.Lists.{lists_of, list_columns};
 
 use crate::lists::sequence::{FromElements, Sequence, decode_each};
 use bitcode_coder::coder::{
-    Buffer, Decoder, Encoder, HoldsData, MAX_VECTORED_CHUNK, NewDecoder, View, both,
+    Buffer, Decoder, EncodeMany, Encoder, HoldsData, MAX_VECTORED_CHUNK, NewDecoder, View, both,
 };
 use bitcode_coder::column_free::ColumnFree;
 use bitcode_coder::length::{LengthDecoder, LengthEncoder};
@@ -58,7 +58,7 @@ struct Pushed {
 // Writes the sequence that is a part of each item, up to the first one of 16 elements or more. Room for them was
 // reserved. The list of lengths is passed by value and returned: through a reference, each sequence would load and
 // store its length.
-fn push_short<I, S: Sequence, W: Part<I, S>, E: Encoder<S::Element>>(
+fn push_short<I, S: Sequence, W: Part<I, S>, E: EncodeMany<S::Element>>(
     mut sizes: LengthEncoder,
     elements: &mut E,
     items: &[I],
@@ -104,7 +104,7 @@ impl<E> VecEncoder<E> {
         which: &W,
     ) -> Result<(), Error>
     where
-        E: Encoder<S::Element>,
+        E: EncodeMany<S::Element>,
         requires { length items.now ≤ length_room self.old.lengths }
         ensures joined { OnOk result
             (JoinsEach S.data.lists S.data.shape (map (W.of which.now) items.now)
@@ -133,7 +133,7 @@ impl<E> VecEncoder<E> {
         which: &W,
     ) -> Result<usize, Error>
     where
-        E: Encoder<S::Element>,
+        E: EncodeMany<S::Element>,
         requires chunk { length items.now ≤ MAX_VECTORED_CHUNK }
         requires room { length items.now ≤ length_room self.old.lengths }
         ensures count { IfOk result (λ n. n ≤ length items.now) }
@@ -198,7 +198,7 @@ impl<E: Buffer> Buffer for VecEncoder<E> {
     }
 }
 
-impl<S: Sequence, E: Encoder<S::Element>> Encoder<S> for VecEncoder<E> {
+impl<S: Sequence, E: EncodeMany<S::Element>> Encoder<S> for VecEncoder<E> {
     ghost writes_free = { false };
 
     fn encode(&mut self, t: &S) -> Result<(), Error> {
@@ -222,6 +222,13 @@ impl<S: Sequence, E: Encoder<S::Element>> Encoder<S> for VecEncoder<E> {
         Ok(true)
     }
 
+    ghost of_shape = { λ e. ap (two (one (lengths None) [])) (E.of_shape e.elements) ∙ sym
+        (S.items_columns []) };
+
+    ghost surely = { λ e n never. absurd never };
+}
+
+impl<S: Sequence, E: EncodeMany<S::Element>> EncodeMany<S> for VecEncoder<E> {
     fn encode_part_of_each<I, W: Part<I, S>>(
         &mut self,
         items: &[I],
@@ -234,11 +241,6 @@ impl<S: Sequence, E: Encoder<S::Element>> Encoder<S> for VecEncoder<E> {
         let done = self.encode_short(items, which)?;
         self.encode_one_by_one(&items[done..], which)
     }
-
-    ghost of_shape = { λ e. ap (two (one (lengths None) [])) (E.of_shape e.elements) ∙ sym
-        (S.items_columns []) };
-
-    ghost surely = { λ e n never. absurd never };
 }
 
 /// The decoder of sequences. It reads the lengths of all of them, and then the elements of all of them.

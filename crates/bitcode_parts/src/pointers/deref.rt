@@ -6,7 +6,7 @@ ghost use Rattle.bitcode_coder.specs.Columns.{lengths, one, two};
 
 use crate::lists::vec::VecEncoder;
 use crate::pointers::pointed::Pointed;
-use bitcode_coder::coder::{Buffer, Encoder};
+use bitcode_coder::coder::{Buffer, EncodeMany, Encoder};
 use bitcode_coder::part::Part;
 use bitcode_memory::error::Error;
 use bitcode_shapes::shaped::Shaped;
@@ -101,6 +101,14 @@ impl<P: Points, E: Encoder<P::Target>> Encoder<P> for DerefEncoder<E> {
         self.inner.write_directly(t.target(), out)
     }
 
+    ghost of_shape = { λ e. E.of_shape e.inner ∙ ap (λ shape. written_columns shape [])
+        (sym P.same_shape) };
+
+    ghost surely = { λ e n h. subst (λ shape. SurelyOverflows shape (E.columns e.inner) n)
+        (sym P.same_shape) (E.surely e.inner n h) };
+}
+
+impl<P: Points, E: EncodeMany<P::Target>> EncodeMany<P> for DerefEncoder<E> {
     fn encode_part_of_each<S, W: Part<S, P>>(
         &mut self,
         items: &[S],
@@ -110,15 +118,9 @@ impl<P: Points, E: Encoder<P::Target>> Encoder<P> for DerefEncoder<E> {
         self.inner
             .encode_part_of_each(items, &Pointed::<W, P>::by(which), first.target())
     }
-
-    ghost of_shape = { λ e. E.of_shape e.inner ∙ ap (λ shape. written_columns shape [])
-        (sym P.same_shape) };
-
-    ghost surely = { λ e n h. subst (λ shape. SurelyOverflows shape (E.columns e.inner) n)
-        (sym P.same_shape) (E.surely e.inner n h) };
 }
 
-impl<T: Shaped, E: Encoder<T>> Encoder<BoxedSlice<T>> for DerefEncoder<VecEncoder<E>> {
+impl<T: Shaped, E: EncodeMany<T>> Encoder<BoxedSlice<T>> for DerefEncoder<VecEncoder<E>> {
     ghost writes_free = { false };
 
     fn encode(&mut self, t: &BoxedSlice<T>) -> Result<(), Error> {
@@ -130,7 +132,9 @@ impl<T: Shaped, E: Encoder<T>> Encoder<BoxedSlice<T>> for DerefEncoder<VecEncode
     ghost surely = { λ e n never. absurd never };
 }
 
-impl<T: Shaped, E: Encoder<T>> Encoder<RcSlice<T>> for DerefEncoder<VecEncoder<E>> {
+impl<T: Shaped, E: EncodeMany<T>> EncodeMany<BoxedSlice<T>> for DerefEncoder<VecEncoder<E>> {}
+
+impl<T: Shaped, E: EncodeMany<T>> Encoder<RcSlice<T>> for DerefEncoder<VecEncoder<E>> {
     ghost writes_free = { false };
 
     fn encode(&mut self, t: &RcSlice<T>) -> Result<(), Error> {
@@ -143,7 +147,9 @@ impl<T: Shaped, E: Encoder<T>> Encoder<RcSlice<T>> for DerefEncoder<VecEncoder<E
     ghost surely = { λ e n never. absurd never };
 }
 
-impl<T: Shaped, E: Encoder<T>> Encoder<ArcSlice<T>> for DerefEncoder<VecEncoder<E>> {
+impl<T: Shaped, E: EncodeMany<T>> EncodeMany<RcSlice<T>> for DerefEncoder<VecEncoder<E>> {}
+
+impl<T: Shaped, E: EncodeMany<T>> Encoder<ArcSlice<T>> for DerefEncoder<VecEncoder<E>> {
     ghost writes_free = { false };
 
     fn encode(&mut self, t: &ArcSlice<T>) -> Result<(), Error> {
@@ -155,3 +161,5 @@ impl<T: Shaped, E: Encoder<T>> Encoder<ArcSlice<T>> for DerefEncoder<VecEncoder<
 
     ghost surely = { λ e n never. absurd never };
 }
+
+impl<T: Shaped, E: EncodeMany<T>> EncodeMany<ArcSlice<T>> for DerefEncoder<VecEncoder<E>> {}

@@ -5,7 +5,7 @@ ghost use Rattle.std.specs.Prelude.{false, true, map, refl};
 ghost use Rattle.bitcode_coder.specs.Columns.{ints, one};
 ghost use Rattle.bitcode_coder.specs.Spelling.{natural};
 
-use bitcode_coder::coder::{Buffer, Encoder};
+use bitcode_coder::coder::{Buffer, EncodeMany, Encoder};
 use bitcode_int_columns::column_int::ColumnInt;
 use bitcode_memory::error::Error;
 use bitcode_memory::fast::{FastVec, PushUnchecked};
@@ -76,3 +76,5 @@ impl Encoder<u8> for VariantEncoder {
 
     ghost surely = { λ e n never. absurd never };
 }
+
+impl EncodeMany<u8> for VariantEncoder {}

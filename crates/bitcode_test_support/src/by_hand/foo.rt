@@ -3,7 +3,7 @@ ghost use Rattle.std.specs.Prelude.{true, min, refl, false, ◌+◌};
 ghost use Rattle.bitcode.specs.ByHand.{data_as, pairs_of, two};
 ghost use Rattle.bitcode_test_support.specs.Foo.{foo_fields};
 
-use bitcode::coder::{Buffer, ColumnFree, HoldsData, NewDecoder, Result, both};
+use bitcode::coder::{Buffer, ColumnFree, EncodeMany, HoldsData, NewDecoder, Result, both};
 use bitcode::{
     Decoder, Encoder, HasDecoder, HasEncoder, IntDecoder, IntEncoder, Shaped, StrDecoder,
     StrEncoder, TupleDecoder, View,
@@ -82,6 +82,8 @@ impl<'a> Encoder<Foo<'a>> for FooEncoder {
 
     ghost surely = { λ e n h. absurd h };
 }
+
+impl<'a> EncodeMany<Foo<'a>> for FooEncoder {}
 
 #[derive(Drop)]
 pub struct FooDecoder<'a> {

@@ -3,7 +3,7 @@ ghost use Rattle.std.specs.Prelude.{true, refl};
 ghost use Rattle.bitcode.specs.ByHand.{data_as};
 ghost use Rattle.bitcode_test_support.specs.One.{one_again, one_field, one_found};
 
-use bitcode::coder::{Buffer, ColumnFree, HoldsData, NewDecoder, Result};
+use bitcode::coder::{Buffer, ColumnFree, EncodeMany, HoldsData, NewDecoder, Result};
 use bitcode::{
     DecodeOwned, Decoder, Encoder, HasDecoder, HasEncoder, IntDecoder, IntEncoder, Shaped, View,
 };
@@ -71,6 +71,8 @@ impl Encoder<One> for OneEncoder {
 
     ghost surely = { λ e n h. absurd h };
 }
+
+impl EncodeMany<One> for OneEncoder {}
 
 #[derive(Drop)]
 pub struct OneDecoder<'a> {

@@ -3,7 +3,7 @@ ghost use Rattle.std.specs.Prelude.{[], ◌∷◌, true, false, refl, ◌+◌};
 ghost use Rattle.bitcode.specs.ByHand.{no_columns, two, choices_of, variant_room, variants_left, variants_owned};
 ghost use Rattle.bitcode_test_support.specs.Two.{two_data};
 
-use bitcode::coder::{Buffer, ColumnFree, HoldsData, NewDecoder, Result, both};
+use bitcode::coder::{Buffer, ColumnFree, EncodeMany, HoldsData, NewDecoder, Result, both};
 use bitcode::own::encode_payload;
 use bitcode::{
     DecodeOwned, Decoder, Encoder, HasDecoder, HasEncoder, IntDecoder, IntEncoder, ResultDecoder,
@@ -96,6 +96,8 @@ impl Encoder<Two> for TwoEncoder {
 
     ghost surely = { λ e n h. absurd h };
 }
+
+impl EncodeMany<Two> for TwoEncoder {}
 
 #[derive(Drop)]
 pub struct TwoDecoder<'a> {

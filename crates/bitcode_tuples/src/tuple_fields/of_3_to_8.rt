@@ -6,7 +6,7 @@ ghost use Rattle.bitcode_tuples.specs.FieldLaws.{columns_alike, field_alike, pai
 use crate::encoder::TupleEncoder;
 use crate::has_field::{HasField, Nth};
 use crate::struct_encoder::InFields;
-use bitcode_coder::coder::{Buffer, Encoder};
+use bitcode_coder::coder::{Buffer, EncodeMany};
 use bitcode_shapes::shaped::Shaped;
 
 impl<A: Shaped, B, C> HasField<0> for (A, B, C) {
@@ -43,9 +43,9 @@ impl<
     A: Shaped,
     B: Shaped,
     C: Shaped,
-    E0: Buffer + Encoder<A>,
-    E1: Buffer + Encoder<B>,
-    E2: Buffer + Encoder<C>,
+    E0: Buffer + EncodeMany<A>,
+    E1: Buffer + EncodeMany<B>,
+    E2: Buffer + EncodeMany<C>,
 > InFields<TupleEncoder<E0, TupleEncoder<E1, E2>>> for (A, B, C) {
     type Numbers = (Nth<0>, (Nth<1>, Nth<2>));
 
@@ -103,10 +103,10 @@ impl<
     B: Shaped,
     C: Shaped,
     D: Shaped,
-    E0: Buffer + Encoder<A>,
-    E1: Buffer + Encoder<B>,
-    E2: Buffer + Encoder<C>,
-    E3: Buffer + Encoder<D>,
+    E0: Buffer + EncodeMany<A>,
+    E1: Buffer + EncodeMany<B>,
+    E2: Buffer + EncodeMany<C>,
+    E3: Buffer + EncodeMany<D>,
 > InFields<TupleEncoder<TupleEncoder<E0, E1>, TupleEncoder<E2, E3>>> for (A, B, C, D) {
     type Numbers = ((Nth<0>, Nth<1>), (Nth<2>, Nth<3>));
 
@@ -176,11 +176,11 @@ impl<
     C: Shaped,
     D: Shaped,
     E: Shaped,
-    E0: Buffer + Encoder<A>,
-    E1: Buffer + Encoder<B>,
-    E2: Buffer + Encoder<C>,
-    E3: Buffer + Encoder<D>,
-    E4: Buffer + Encoder<E>,
+    E0: Buffer + EncodeMany<A>,
+    E1: Buffer + EncodeMany<B>,
+    E2: Buffer + EncodeMany<C>,
+    E3: Buffer + EncodeMany<D>,
+    E4: Buffer + EncodeMany<E>,
 > InFields<TupleEncoder<TupleEncoder<E0, E1>, TupleEncoder<E2, TupleEncoder<E3, E4>>>>
     for (A, B, C, D, E) {
     type Numbers = ((Nth<0>, Nth<1>), (Nth<2>, (Nth<3>, Nth<4>)));
@@ -262,12 +262,12 @@ impl<
     D: Shaped,
     E: Shaped,
     F: Shaped,
-    E0: Buffer + Encoder<A>,
-    E1: Buffer + Encoder<B>,
-    E2: Buffer + Encoder<C>,
-    E3: Buffer + Encoder<D>,
-    E4: Buffer + Encoder<E>,
-    E5: Buffer + Encoder<F>,
+    E0: Buffer + EncodeMany<A>,
+    E1: Buffer + EncodeMany<B>,
+    E2: Buffer + EncodeMany<C>,
+    E3: Buffer + EncodeMany<D>,
+    E4: Buffer + EncodeMany<E>,
+    E5: Buffer + EncodeMany<F>,
 > InFields<
     TupleEncoder<TupleEncoder<E0, TupleEncoder<E1, E2>>, TupleEncoder<E3, TupleEncoder<E4, E5>>>,
 > for (A, B, C, D, E, F) {
@@ -362,13 +362,13 @@ impl<
     E: Shaped,
     F: Shaped,
     G: Shaped,
-    E0: Buffer + Encoder<A>,
-    E1: Buffer + Encoder<B>,
-    E2: Buffer + Encoder<C>,
-    E3: Buffer + Encoder<D>,
-    E4: Buffer + Encoder<E>,
-    E5: Buffer + Encoder<F>,
-    E6: Buffer + Encoder<G>,
+    E0: Buffer + EncodeMany<A>,
+    E1: Buffer + EncodeMany<B>,
+    E2: Buffer + EncodeMany<C>,
+    E3: Buffer + EncodeMany<D>,
+    E4: Buffer + EncodeMany<E>,
+    E5: Buffer + EncodeMany<F>,
+    E6: Buffer + EncodeMany<G>,
 > InFields<
     TupleEncoder<
         TupleEncoder<E0, TupleEncoder<E1, E2>>,
@@ -480,14 +480,14 @@ impl<
     F: Shaped,
     G: Shaped,
     H: Shaped,
-    E0: Buffer + Encoder<A>,
-    E1: Buffer + Encoder<B>,
-    E2: Buffer + Encoder<C>,
-    E3: Buffer + Encoder<D>,
-    E4: Buffer + Encoder<E>,
-    E5: Buffer + Encoder<F>,
-    E6: Buffer + Encoder<G>,
-    E7: Buffer + Encoder<H>,
+    E0: Buffer + EncodeMany<A>,
+    E1: Buffer + EncodeMany<B>,
+    E2: Buffer + EncodeMany<C>,
+    E3: Buffer + EncodeMany<D>,
+    E4: Buffer + EncodeMany<E>,
+    E5: Buffer + EncodeMany<F>,
+    E6: Buffer + EncodeMany<G>,
+    E7: Buffer + EncodeMany<H>,
 > InFields<
     TupleEncoder<
         TupleEncoder<TupleEncoder<E0, E1>, TupleEncoder<E2, E3>>,

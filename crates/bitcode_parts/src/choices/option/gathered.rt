@@ -6,7 +6,7 @@ ghost use Rattle.bitcode_parts.specs.Options.{option_index, values_in};
 
 use crate::choices::gathered::SaysVariant;
 use crate::choices::variant::encode_payloads;
-use bitcode_coder::coder::{Buffer, Encoder, MAX_VECTORED_CHUNK};
+use bitcode_coder::coder::{Buffer, EncodeMany, MAX_VECTORED_CHUNK};
 use bitcode_coder::part::Part;
 use bitcode_memory::error::Error;
 use bitcode_shapes::shaped::Shaped;
@@ -64,7 +64,7 @@ fn gather_values<'a, S, T, W: Part<S, Option<T>>>(
 
 // Reserves room for exactly the values among a part of each item, and adds them to the columns. The array of references
 // to them is not allocated: it is first filled with one of them.
-fn encode_from<'a, S, T: Shaped, W: Part<S, Option<T>>, E: Encoder<T>>(
+fn encode_from<'a, S, T: Shaped, W: Part<S, Option<T>>, E: EncodeMany<T>>(
     encoder: &mut E,
     first: &'a T,
     items: &'a [S],
@@ -87,7 +87,7 @@ fn encode_from<'a, S, T: Shaped, W: Part<S, Option<T>>, E: Encoder<T>>(
 }
 
 // Makes room for the values among a part of each item, if there are any.
-pub(super) fn encode_values<'a, S, T: Shaped, W: Part<S, Option<T>>, E: Encoder<T>>(
+pub(super) fn encode_values<'a, S, T: Shaped, W: Part<S, Option<T>>, E: EncodeMany<T>>(
     encoder: &mut E,
     items: &'a [S],
     which: &'a W,

@@ -1,65 +1,65 @@
--- A listing of each value up to the chunk at hand was joined; those behind it are listed by their law.
-use Rattle.std.proofs.Common.{All, refl, sym, subst, ◌∙◌, arith}
-use Rattle.std.proofs.lemmas.List.{map-id}
+-- A listing of each value up to the one at hand was joined; those behind it are listed by their law.
+use Rattle.std.proofs.Common.{drop, refl, subst, ◌+◌, ◌∙◌, arith}
+use Rattle.std.proofs.lemmas.List.{at_drop_all}
 use Rattle.std.proofs.lemmas.List.Elements.{All-drop}
 use Rattle.std.proofs.lemmas.Result.{err_from_is_err_and}
 use Rattle.bitcode_shapes.specs.LawfulLists.{each_listed}
-use Rattle.bitcode_coder.specs.Coder.{JoinsEach, OverflowsWithEach}
-use Rattle.bitcode_coder.proofs.EachLemmas.{JoinsFront, front_none, front_more_each, front_overflows_each}
+use Rattle.bitcode_coder.proofs.EachLemmas.{JoinsFront, front_none, front_more, front_overflows, front_whole, next_of}
 use Rattle.bitcode_coder.proofs.RefusalLemmas.{refusal_weaker}
 use Rattle.bitcode_coder.proofs.coder.Encoder.encode_slice.Goals as goal
 
-pub loop-rest-init : goal.loop-rest-init
-loop-rest-init g c = record {
+pub loop-item-init : goal.loop-item-init
+loop-item-init g c = record {
   front = front_none g.T.Shaped.data.lists g.T.Shaped.data.shape (g.Self.Buffer.columns c.args.self.now) (g.met.Self.Encoder.of_shape c.args.self.now) c.args.items.now;
-  values = c.told_each.ensures;
-  left = c.requires;
-  fewer = omega arith;
   room = omega arith;
   form = refl;
 }
 
-pub loop-rest-preserved : goal.loop-rest-preserved
-loop-rest-preserved g c =
-    let lists = g.T.Shaped.data.lists in
-    let shape = g.T.Shaped.data.shape in
-    let whole = c.args.items.now in
-    let front = c.split_at.result.0.now in
-    let behind = c.split_at.result.1.now in
-    let old = g.Self.Buffer.columns c.args.self.now in
-    let now = g.Self.Buffer.columns c.loop-rest.self in
-    let new = g.Self.Buffer.columns c.encode_part_of_each.new.self in
-    record {
-      front =
-          front_more_each lists shape old (g.met.Self.Encoder.of_shape c.args.self.now) whole front behind now new
-          (subst (λ items. JoinsFront lists shape whole items old now) c.split_at.ensures.by_index.0 c.loop-rest.invariant.front)
-          (subst (λ items. JoinsEach lists shape items now new) (map-id front) c.in_ok-encode_part_of_each.ensures.joined);
-      values =
-          subst (All g.T.Shaped.data.is_value) (sym c.split_at.ensures.back)
-          (All-drop g.T.Shaped.data.is_value c.min.result c.loop-rest.rest.now c.loop-rest.invariant.values);
-      left = omega (arith, c.split_at.ensures.front_len, c.split_at.ensures.back_len, c.loop-rest.invariant.left, c.in_ok-encode_part_of_each.ensures.room);
-      fewer = omega (arith, c.split_at.ensures.back_len, c.loop-rest.invariant.fewer);
-      room = omega (arith, c.split_at.ensures.front_len, c.split_at.ensures.back_len, c.loop-rest.invariant.room, c.in_ok-encode_part_of_each.ensures.room);
-      form = c.encode_part_of_each.ensures.form ∙ c.loop-rest.invariant.form;
-    }
+pub encode-requires : goal.encode-requires
+encode-requires g c = omega (arith, c.requires, c.loop-item.invariant.room, c.loop-item-test.true)
 
-pub returns-in_err-encode_part_of_each-clause-refused : goal.returns-in_err-encode_part_of_each-clause-refused
-returns-in_err-encode_part_of_each-clause-refused g c =
+pub returns-in_err-encode-clause-refused : goal.returns-in_err-encode-clause-refused
+returns-in_err-encode-clause-refused g c =
     let refused = err_from_is_err_and c.from_residual.result c.from_residual.ensures.1 in
     let lists = g.T.Shaped.data.lists in
     let shape = g.T.Shaped.data.shape in
     let whole = c.args.items.now in
-    let front = c.split_at.result.0.now in
-    let behind = c.split_at.result.1.now in
+    let rest = (drop (c.loop-item.item-index + 1) c.args.items.now) in
     let old = g.Self.Buffer.columns c.args.self.now in
-    let now = g.Self.Buffer.columns c.loop-rest.self in
+    let now = g.Self.Buffer.columns c.loop-item.self in
+    let step = next_of c.args.items.now c.loop-item.item-index c.item-item.result c.loop-item-test.true c.item-item.is in
     let others =
-    each_listed shape g.T.Shaped.data.is_value lists g.T.Shaped.data.same g.T.Shaped.data.in_order g.T.Shaped.data.lawful behind
-    (subst (All g.T.Shaped.data.is_value) (sym c.split_at.ensures.back)
-    (All-drop g.T.Shaped.data.is_value c.min.result c.loop-rest.rest.now c.loop-rest.invariant.values)) in
+    each_listed shape g.T.Shaped.data.is_value lists g.T.Shaped.data.same g.T.Shaped.data.in_order g.T.Shaped.data.lawful rest
+    (All-drop g.T.Shaped.data.is_value (c.loop-item.item-index + 1) c.args.items.now c.told_each.ensures) in
     rw (refused.1, refused.2) (
-    refusal_weaker _ (λ some.
-    front_overflows_each lists shape old (g.met.Self.Encoder.of_shape c.args.self.now) whole front behind now
-    (subst (λ items. JoinsFront lists shape whole items old now) c.split_at.ensures.by_index.0 c.loop-rest.invariant.front)
-    (subst (λ items. OverflowsWithEach lists shape items now) (map-id front) some) others.0 others.1) c.in_err-encode_part_of_each.ensures.refused
+    refusal_weaker _ (λ one.
+    front_overflows lists shape old (g.met.Self.Encoder.of_shape c.args.self.now) whole rest c.item-item.result now
+    (subst (λ items. JoinsFront lists shape whole items old now) step c.loop-item.invariant.front)
+    one others.0 others.1) c.in_err-encode.ensures.refused
     )
+
+pub loop-item-preserved : goal.loop-item-preserved
+loop-item-preserved g c =
+    let lists = g.T.Shaped.data.lists in
+    let shape = g.T.Shaped.data.shape in
+    let whole = c.args.items.now in
+    let rest = (drop (c.loop-item.item-index + 1) c.args.items.now) in
+    let old = g.Self.Buffer.columns c.args.self.now in
+    let now = g.Self.Buffer.columns c.loop-item.self in
+    let step = next_of c.args.items.now c.loop-item.item-index c.item-item.result c.loop-item-test.true c.item-item.is in
+    record {
+      front =
+          front_more lists shape old (g.met.Self.Encoder.of_shape c.args.self.now) whole rest c.item-item.result now (g.Self.Buffer.columns c.encode.new.self)
+          (subst (λ items. JoinsFront lists shape whole items old now) step c.loop-item.invariant.front) c.in_ok-encode.ensures.joined;
+      room = omega (arith, c.loop-item.invariant.room, c.in_ok-encode.ensures.room);
+      form = c.encode.ensures.form ∙ c.loop-item.invariant.form;
+    }
+
+pub returns-clause-joined : goal.returns-clause-joined
+returns-clause-joined g c =
+    front_whole g.T.Shaped.data.lists g.T.Shaped.data.shape (g.Self.Buffer.columns c.args.self.now) (g.met.Self.Encoder.of_shape c.args.self.now)
+    c.args.items.now (drop c.loop-item.item-index c.args.items.now) (g.Self.Buffer.columns c.loop-item.self)
+    c.loop-item.invariant.front (at_drop_all (λ ys. ys) c.args.items.now c.loop-item.item-index (omega (arith, c.loop-item-test.false)))
+
+pub returns-clause-room : goal.returns-clause-room
+returns-clause-room g c = omega (arith, c.loop-item.invariant.room, c.loop-item.auto.item-index-end)

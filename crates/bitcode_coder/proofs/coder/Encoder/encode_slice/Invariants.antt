@@ -1,17 +1,11 @@
-use Rattle.std.proofs.Common.{◌≡◌, ◌+◌, ◌≤◌, length, All}
+use Rattle.std.proofs.Common.{◌≡◌, ◌+◌, ◌≤◌, drop}
 use Rattle.bitcode_coder.specs.Columns.{emptied}
 use Rattle.bitcode_coder.proofs.EachLemmas.{JoinsFront}
 use Rattle.bitcode_coder.proofs.coder.Encoder.encode_slice.Given as goal
 
-abbrev pub invariant-loop-rest : goal.invariant-loop-rest
-invariant-loop-rest g l = record {
-  front : JoinsFront g.T.Shaped.data.lists g.T.Shaped.data.shape l.initial.rest l.rest (g.Self.Buffer.columns l.initial.self) (g.Self.Buffer.columns l.self);
-  values : All g.T.Shaped.data.is_value l.rest;
-  left : length l.rest ≤ g.Self.Buffer.room l.self;
-  fewer : length l.rest ≤ length l.initial.rest;
-  room : g.Self.Buffer.room l.initial.self + length l.rest ≤ g.Self.Buffer.room l.self + length l.initial.rest;
+abbrev pub invariant-loop-item : goal.invariant-loop-item
+invariant-loop-item g l = record {
+  front : JoinsFront g.T.Shaped.data.lists g.T.Shaped.data.shape l.items (drop l.item-index l.items) (g.Self.Buffer.columns l.initial.self) (g.Self.Buffer.columns l.self);
+  room : g.Self.Buffer.room l.initial.self ≤ g.Self.Buffer.room l.self + l.item-index;
   form : emptied (g.Self.Buffer.columns l.self) ≡ emptied (g.Self.Buffer.columns l.initial.self);
 }
-
-abbrev pub decreases-loop-rest : goal.decreases-loop-rest
-decreases-loop-rest g l = length l.rest
