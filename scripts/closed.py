@@ -8,7 +8,7 @@ from known_types import INTEGERS, MOST_FIELDS, TYPES, of_text
 
 # A struct whose fields name no more types than these has no coders of its own, since that costs less to prove: one that
 # no enum and no struct with coders of its own holds, and one that such a type holds.
-MOST_OPEN, MOST_HELD = 24, 7
+MOST_OPEN, MOST_HELD = 19, 7
 # The types whose values own no memory, if those that they take do not.
 PLAIN = {
     "Duration",
