@@ -1,4 +1,4 @@
-//! The four traits that encoders and decoders implement, for single columns and for types.
+//! The traits that encoders and decoders implement, for single columns and for types.
 ghost use Rattle.std.specs.Prelude.{◌≡◌, ◌≢◌, ℕ, ◌+◌, ◌<◌, ◌≤◌, Bool, List, [], ◌++◌, length, map, IsTrue, IfSome};
 ghost use Rattle.std.specs.Prelude.{IsFalse, ◌↔◌, ◌&&◌, IsOk, IfOk, OnOk, IfErr, OnErr, IsErrOf};
 ghost use Rattle.bitcode_memory.specs.declared.error.Reason.{Reason};
