@@ -1,4 +1,4 @@
-//! The four traits that encoders and decoders implement, for single columns and for types.
+//! The traits that encoders and decoders implement, for single columns and for types.
 ghost use Rattle.std.specs.Prelude.{◌≡◌, ◌≢◌, ℕ, ◌+◌, ◌<◌, ◌≤◌, Bool, List, [], ◌++◌, length, map, IsTrue, IfSome};
 ghost use Rattle.std.specs.Prelude.{IsFalse, ◌↔◌, ◌&&◌, IsOk, IfOk, OnOk, IfErr, OnErr, IsErrOf};
 ghost use Rattle.bitcode_memory.specs.declared.error.Reason.{Reason};
@@ -261,8 +261,8 @@ pub trait EncodeMany<T: Shaped>: Encoder<T> {
     }
 }
 
-/// Adds the values of a slice to the columns, up to [`MAX_VECTORED_CHUNK`] at a time. The caller must have reserved room
-/// for them.
+/// Adds the values of a slice to the columns, up to [`MAX_VECTORED_CHUNK`] at a time. The caller must have reserved
+/// room for them.
 ///
 /// Errors: those of [`Encoder::encode`]. Some of the first values may have been added by then.
 pub fn encode_in_chunks<T: Shaped, E: EncodeMany<T>>(

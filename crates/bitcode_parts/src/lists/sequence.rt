@@ -120,9 +120,10 @@ pub fn encode_each<T: Shaped, E: EncodeMany<T>>(elements: &mut E, items: &[T]) -
     ensures none { length items.now ≡ 0 → IsOk result }
 {
     if E::is_primitive() {
-        return elements.encode_slice(items);
+        elements.encode_slice(items)
+    } else {
+        encode_in_chunks(elements, items)
     }
-    encode_in_chunks(elements, items)
 }
 
 /// Makes `count` values, one after another, with one call of the decoder. At least as many data must be left.
