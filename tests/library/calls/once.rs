@@ -2,7 +2,7 @@
 use bitcode::coder::Buffer as _;
 use bitcode::{
     BoolDecoder, BoolEncoder, Buffer, CowSlice, Decoder, Encoder, Error, FastSlice, FastVec,
-    HoldsData, IntDecoder, IntEncoder, NextUnchecked, PushUnchecked, Reason, TupleDecoder,
+    IntDecoder, IntEncoder, NewDecoder, NextUnchecked, PushUnchecked, Reason, TupleDecoder,
     TupleEncoder, View, consume_byte, consume_byte_arrays, consume_bytes, decode_front,
     decode_front_strict, encode_into, err, error, expect_eof, invalid_enum_variant, minmax,
     mul_length,

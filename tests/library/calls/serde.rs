@@ -7,7 +7,7 @@ use bitcode::laws::{
 };
 use bitcode::serde::{VariantDecoder, VariantEncoder};
 use bitcode::{
-    Decoder, Encoder, HoldsData, REF_LIMIT, Reason, Shape, ShapeNode, Value, View, ZST_LIMIT,
+    Decoder, Encoder, NewDecoder, REF_LIMIT, Reason, Shape, ShapeNode, Value, View, ZST_LIMIT,
     deserialize, deserialize_within, serialize,
 };
 use bitcode_test_support::Got;

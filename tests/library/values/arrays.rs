@@ -2,8 +2,8 @@
 use bitcode::coder::Buffer as _;
 use bitcode::laws::overflows_exactly;
 use bitcode::{
-    ArrayDecoder, ArrayEncoder, DecodeOwned, Decoder, EmptyCoder, Encoder, HoldsData, IntDecoder,
-    IntEncoder, Reason, View, encode, err,
+    ArrayDecoder, ArrayEncoder, DecodeOwned, Decoder, EmptyCoder, Encoder, IntDecoder, IntEncoder,
+    NewDecoder, Reason, View, encode, err,
 };
 use bitcode_test_support::{Got, both_ways, holds};
 use std::test::Fail;

@@ -2,7 +2,7 @@
 use bitcode::own::{AsInt, Checked};
 use bitcode::{
     CheckedIntDecoder, ConvertFrom, ConvertInto, Decoder, DurationDecode, DurationEncode,
-    HoldsData, Nanosecond, Reason, View, decode,
+    Nanosecond, NewDecoder, Reason, View, decode,
 };
 use bitcode_test_support::{Got, both_ways, holds, refuses};
 use std::num::{NonZeroI64, NonZeroU8};

@@ -2,7 +2,7 @@
 use bitcode::coder::Buffer as _;
 use bitcode::laws::{borrowed_text, borrowed_texts, joined_texts, short_text};
 use bitcode::{
-    Decoder, Encoder, HoldsData, Reason, StrDecoder, StrEncoder, U8Char, U8CharEncoder, View,
+    Decoder, Encoder, NewDecoder, Reason, StrDecoder, StrEncoder, U8Char, U8CharEncoder, View,
     decode,
 };
 use bitcode_test_support::{Got, both_ways, refuses};
