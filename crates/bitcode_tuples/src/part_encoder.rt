@@ -79,7 +79,7 @@ pub trait PartEncoder<T, K> {
             (λ e. IsWritingRefusal e.reason
             (OverflowsWithListing lists shape whole.now (Self.columns self.old))) };
 
-    /// Like `Encoder::encode_part_of_each`, for parts that have listings.
+    /// Like `EncodeMany::encode_part_of_each`, for parts that have listings.
     ///
     /// Errors: those of `encode`. Some of the first parts may have been added by then.
     fn encode_part_in_each<S, W: Part<S, T>>(&mut self, items: &[S], which: &W) -> Result<(), Error>
