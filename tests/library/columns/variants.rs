@@ -1,8 +1,8 @@
 //! Columns of variants that the Rust crate packed and unpacked, and every last byte in every base.
 use bitcode::coder::Buffer as _;
 use bitcode::{
-    CowSlice, Error, Reason, VariantDecoder, VariantEncoder, View, histogram, pack_bytes_less_than,
-    unpack_bytes_less_than,
+    CowSlice, Error, NewDecoder, Reason, VariantDecoder, VariantEncoder, View, histogram,
+    pack_bytes_less_than, unpack_bytes_less_than,
 };
 use bitcode_test_support::Got;
 use std::alloc::Global;
@@ -95,7 +95,7 @@ fn refuses<const N: usize>(
 }
 
 /// How many bytes are left behind so many data.
-fn left_behind<'a, V: View<'a> + Drop>(
+fn left_behind<'a, V: NewDecoder + View<'a> + Drop>(
     alloc: Global,
     mut input: &'a [u8],
     count: usize,
