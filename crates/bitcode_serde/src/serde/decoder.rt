@@ -91,7 +91,7 @@ fn count(bytes: &[u8], index: u8) -> usize
 }
 
 impl<'a> HoldsData for VariantDecoder<'a> {
-    ghost use Rattle.bitcode_serde.specs.Indices.{indices_left, indices_owned, index_count};
+    ghost use Rattle.bitcode_serde.specs.Indices.{indices_left, indices_owned};
 
     ghost shape = { int_shape 1 false };
 
@@ -103,6 +103,8 @@ impl<'a> HoldsData for VariantDecoder<'a> {
 }
 
 impl<'a> NewDecoder for VariantDecoder<'a> {
+    ghost use Rattle.bitcode_serde.specs.Indices.{indices_left, indices_owned, index_count};
+
     fn new(alloc: Global) -> Self
         ensures held { indices_left result ≡ [] }
         ensures owned { indices_owned result ≡ 0 }
