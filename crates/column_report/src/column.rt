@@ -3,7 +3,7 @@ ghost use Rattle.std.specs.Prelude.{◌≡◌, ℕ, List, length, IfOk};
 ghost use Rattle.bitcode.specs.ByHand.{Datum};
 ghost use Rattle.column_report.specs.Table.{HasLastColumn, total_of};
 
-use bitcode::coder::HoldsData;
+use bitcode::coder::{HoldsData, NewDecoder};
 use bitcode::{Decoder, Error, IntDecoder, LengthDecoder, StrDecoder, View, expect_eof};
 use std::alloc::Global;
 
