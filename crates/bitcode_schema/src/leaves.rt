@@ -14,7 +14,8 @@ use bitcode_coder::coder::{NewDecoder, View, both};
 use bitcode_coder::length::LengthDecoder;
 use bitcode_coder::str::StrDecoder;
 use bitcode_ints::checked::CheckedIntDecoder;
-use bitcode_ints::int::IntDecoder;
+use bitcode_ints::signed_coders::{I8Decoder, I16Decoder, I32Decoder, I64Decoder, I128Decoder};
+use bitcode_ints::unsigned_coders::{U8Decoder, U16Decoder, U32Decoder, U64Decoder, U128Decoder};
 use bitcode_memory::consume::mul_length;
 use bitcode_memory::error::{Error, Reason};
 use bitcode_memory::refuse::err;
@@ -57,16 +58,16 @@ pub(crate) fn read_ints<'a>(
         input.old.now) }
 {
     match kind {
-        IntKind::U8 => read_leaf::<IntDecoder<u8>>(alloc, input, k, strict),
-        IntKind::U16 => read_leaf::<IntDecoder<u16>>(alloc, input, k, strict),
-        IntKind::U32 => read_leaf::<IntDecoder<u32>>(alloc, input, k, strict),
-        IntKind::U64 => read_leaf::<IntDecoder<u64>>(alloc, input, k, strict),
-        IntKind::U128 => read_leaf::<IntDecoder<u128>>(alloc, input, k, strict),
-        IntKind::I8 => read_leaf::<IntDecoder<i8>>(alloc, input, k, strict),
-        IntKind::I16 => read_leaf::<IntDecoder<i16>>(alloc, input, k, strict),
-        IntKind::I32 => read_leaf::<IntDecoder<i32>>(alloc, input, k, strict),
-        IntKind::I64 => read_leaf::<IntDecoder<i64>>(alloc, input, k, strict),
-        IntKind::I128 => read_leaf::<IntDecoder<i128>>(alloc, input, k, strict),
+        IntKind::U8 => read_leaf::<U8Decoder>(alloc, input, k, strict),
+        IntKind::U16 => read_leaf::<U16Decoder>(alloc, input, k, strict),
+        IntKind::U32 => read_leaf::<U32Decoder>(alloc, input, k, strict),
+        IntKind::U64 => read_leaf::<U64Decoder>(alloc, input, k, strict),
+        IntKind::U128 => read_leaf::<U128Decoder>(alloc, input, k, strict),
+        IntKind::I8 => read_leaf::<I8Decoder>(alloc, input, k, strict),
+        IntKind::I16 => read_leaf::<I16Decoder>(alloc, input, k, strict),
+        IntKind::I32 => read_leaf::<I32Decoder>(alloc, input, k, strict),
+        IntKind::I64 => read_leaf::<I64Decoder>(alloc, input, k, strict),
+        IntKind::I128 => read_leaf::<I128Decoder>(alloc, input, k, strict),
     }
 }
 
@@ -112,7 +113,7 @@ pub(crate) fn read_uuids<'a>(
         (λ e. IsFirstFault (array_shape 16 (int_shape 1 false)) e.reason k input.old.now) }
 {
     let count = mul_length(k, 16)?;
-    read_leaf::<IntDecoder<u8>>(alloc, input, count, strict)
+    read_leaf::<U8Decoder>(alloc, input, count, strict)
 }
 
 /// Reads `k` durations: the seconds, and then the nanoseconds.
@@ -127,7 +128,7 @@ pub(crate) fn read_durations<'a>(
     ensures exact { IfErr result
         (λ e. IsFirstFault duration_shape e.reason k input.old.now) }
 {
-    let seconds = read_leaf::<IntDecoder<u64>>(alloc, input, k, strict)?;
+    let seconds = read_leaf::<U64Decoder>(alloc, input, k, strict)?;
     let nanos = read_leaf::<CheckedIntDecoder<Nanosecond, u32>>(alloc, input, k, strict)?;
     Ok(both(seconds, nanos))
 }

@@ -36,6 +36,8 @@ use bitcode_coder::str::StrEncoder;
 use bitcode_floats::float32::F32Encoder;
 use bitcode_floats::float64::F64Encoder;
 use bitcode_ints::int::IntEncoder;
+use bitcode_ints::signed_coders::{I8Encoder, I16Encoder, I32Encoder, I64Encoder, I128Encoder};
+use bitcode_ints::unsigned_coders::{U8Encoder, U16Encoder, U32Encoder, U64Encoder, U128Encoder};
 use bitcode_memory::error::{Error, Reason};
 use bitcode_memory::refuse::err;
 use bitcode_untyped::value::Value;
@@ -67,16 +69,16 @@ fn write_ints(
         (int_shape (width_of kind) (is_signed kind)) (map (λ v. v.now) values.now))) }
 {
     match kind {
-        IntKind::U8 => write_leaf::<u8, IntEncoder<u8>>(alloc, values, out),
-        IntKind::U16 => write_leaf::<u16, IntEncoder<u16>>(alloc, values, out),
-        IntKind::U32 => write_leaf::<u32, IntEncoder<u32>>(alloc, values, out),
-        IntKind::U64 => write_leaf::<u64, IntEncoder<u64>>(alloc, values, out),
-        IntKind::U128 => write_leaf::<u128, IntEncoder<u128>>(alloc, values, out),
-        IntKind::I8 => write_leaf::<i8, IntEncoder<i8>>(alloc, values, out),
-        IntKind::I16 => write_leaf::<i16, IntEncoder<i16>>(alloc, values, out),
-        IntKind::I32 => write_leaf::<i32, IntEncoder<i32>>(alloc, values, out),
-        IntKind::I64 => write_leaf::<i64, IntEncoder<i64>>(alloc, values, out),
-        IntKind::I128 => write_leaf::<i128, IntEncoder<i128>>(alloc, values, out),
+        IntKind::U8 => write_leaf::<u8, U8Encoder>(alloc, values, out),
+        IntKind::U16 => write_leaf::<u16, U16Encoder>(alloc, values, out),
+        IntKind::U32 => write_leaf::<u32, U32Encoder>(alloc, values, out),
+        IntKind::U64 => write_leaf::<u64, U64Encoder>(alloc, values, out),
+        IntKind::U128 => write_leaf::<u128, U128Encoder>(alloc, values, out),
+        IntKind::I8 => write_leaf::<i8, I8Encoder>(alloc, values, out),
+        IntKind::I16 => write_leaf::<i16, I16Encoder>(alloc, values, out),
+        IntKind::I32 => write_leaf::<i32, I32Encoder>(alloc, values, out),
+        IntKind::I64 => write_leaf::<i64, I64Encoder>(alloc, values, out),
+        IntKind::I128 => write_leaf::<i128, I128Encoder>(alloc, values, out),
     }
 }
 
@@ -139,7 +141,7 @@ fn write_nanoseconds(alloc: Global, values: &[&Value], out: &mut Vec<u8>) -> Res
     if !are_below_second(values) {
         return err(Reason::NotOfTheShape);
     }
-    write_leaf::<u32, IntEncoder<u32>>(alloc, values, out)
+    write_leaf::<u32, U32Encoder>(alloc, values, out)
 }
 
 // Appends the columns of the seconds and the nanoseconds of durations.
@@ -159,7 +161,7 @@ fn write_spans(alloc: Global, values: &[&Value], out: &mut Vec<u8>) -> Result<()
     }
     let seconds = fields(alloc, &rows, 0)?;
     let nanoseconds = fields(alloc, &rows, 1)?;
-    write_leaf::<u64, IntEncoder<u64>>(alloc, &seconds, out)?;
+    write_leaf::<u64, U64Encoder>(alloc, &seconds, out)?;
     write_nanoseconds(alloc, &nanoseconds, out)
 }
 
@@ -180,7 +182,7 @@ fn write_ids(alloc: Global, values: &[&Value], out: &mut Vec<u8>) -> Result<(), 
         return err(Reason::NotOfTheShape);
     }
     let parts = flatten(alloc, &held)?;
-    write_leaf::<u8, IntEncoder<u8>>(alloc, &parts, out)
+    write_leaf::<u8, U8Encoder>(alloc, &parts, out)
 }
 
 // All values are units, which have no column.

@@ -23,7 +23,15 @@ use bitcode_coder::length::{LengthDecoder, LengthEncoder};
 use bitcode_coder::str::{StrDecoder, StrEncoder};
 use bitcode_floats::float32::{F32Decoder, F32Encoder};
 use bitcode_floats::float64::{F64Decoder, F64Encoder};
-use bitcode_ints::int::{IntDecoder, IntEncoder};
+use bitcode_ints::int::IntEncoder;
+use bitcode_ints::signed_coders::{
+    I8Decoder, I8Encoder, I16Decoder, I16Encoder, I32Decoder, I32Encoder, I64Decoder, I64Encoder,
+    I128Decoder, I128Encoder,
+};
+use bitcode_ints::unsigned_coders::{
+    U16Decoder, U16Encoder, U32Decoder, U32Encoder, U64Decoder, U64Encoder, U128Decoder,
+    U128Encoder,
+};
 use bitcode_untyped::shape::ShapeNode;
 use bitcode_untyped::value::Value;
 
@@ -74,15 +82,15 @@ impl ColumnKind {
 pub enum Column<'a> {
     Bools(BoolDecoder<'a>),
     Bytes(VariantDecoder<'a>),
-    U16(IntDecoder<'a, u16>),
-    U32(IntDecoder<'a, u32>),
-    U64(IntDecoder<'a, u64>),
-    U128(IntDecoder<'a, u128>),
-    I8(IntDecoder<'a, i8>),
-    I16(IntDecoder<'a, i16>),
-    I32(IntDecoder<'a, i32>),
-    I64(IntDecoder<'a, i64>),
-    I128(IntDecoder<'a, i128>),
+    U16(U16Decoder<'a>),
+    U32(U32Decoder<'a>),
+    U64(U64Decoder<'a>),
+    U128(U128Decoder<'a>),
+    I8(I8Decoder<'a>),
+    I16(I16Decoder<'a>),
+    I32(I32Decoder<'a>),
+    I64(I64Decoder<'a>),
+    I128(I128Decoder<'a>),
     F32(F32Decoder<'a>),
     F64(F64Decoder<'a>),
     Lengths(LengthDecoder<'a>),
@@ -94,15 +102,15 @@ pub enum Column<'a> {
 pub enum WrittenColumn {
     Bools(BoolEncoder),
     Bytes(IntEncoder<u8>),
-    U16(IntEncoder<u16>),
-    U32(IntEncoder<u32>),
-    U64(IntEncoder<u64>),
-    U128(IntEncoder<u128>),
-    I8(IntEncoder<i8>),
-    I16(IntEncoder<i16>),
-    I32(IntEncoder<i32>),
-    I64(IntEncoder<i64>),
-    I128(IntEncoder<i128>),
+    U16(U16Encoder),
+    U32(U32Encoder),
+    U64(U64Encoder),
+    U128(U128Encoder),
+    I8(I8Encoder),
+    I16(I16Encoder),
+    I32(I32Encoder),
+    I64(I64Encoder),
+    I128(I128Encoder),
     F32(F32Encoder),
     F64(F64Encoder),
     Lengths(LengthEncoder),

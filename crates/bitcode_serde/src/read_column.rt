@@ -252,10 +252,7 @@ macro_rules! kind {
 macro_rules! take {
     (($column:expr) $($leaf:ident: $t:ty,)*) => {
         match $column {
-            $(Column::$leaf(column) => match take_value::<$t, _>(column) {
-                Ok(value) => Ok(value),
-                Err(e) => Err(e),
-            },)*
+            $(Column::$leaf(column) => take_value::<$t, _>(column),)*
             Column::Bytes(column) => Ok(next_byte(column)),
             Column::Lengths(column) => Ok(next_length(column)),
         }
@@ -266,10 +263,7 @@ macro_rules! take {
 macro_rules! push_next {
     (($column:expr, $values:expr) $($leaf:ident: $t:ty,)*) => {
         match $column {
-            $(Column::$leaf(column) => match push_value::<$t, _>(column, $values) {
-                Ok(()) => Ok(()),
-                Err(e) => Err(e),
-            },)*
+            $(Column::$leaf(column) => push_value::<$t, _>(column, $values),)*
             Column::Bytes(column) => {
                 push_byte(column, $values);
                 Ok(())
@@ -286,14 +280,8 @@ macro_rules! push_next {
 macro_rules! take_each {
     (($column:expr, $alloc:expr, $count:expr) $($leaf:ident: $t:ty,)*) => {
         match $column {
-            $(Column::$leaf(column) => match take_values::<$t, _>(column, $alloc, $count) {
-                Ok(values) => Ok(values),
-                Err(e) => Err(e),
-            },)*
-            Column::Bytes(column) => match take_bytes(column, $alloc, $count) {
-                Ok(values) => Ok(values),
-                Err(e) => Err(e),
-            },
+            $(Column::$leaf(column) => take_values::<$t, _>(column, $alloc, $count),)*
+            Column::Bytes(column) => take_bytes(column, $alloc, $count),
             Column::Lengths(_) => $column.take_in_turn($alloc, $count),
         }
     };

@@ -30,7 +30,8 @@ use bitcode_coder::length::LengthDecoder;
 use bitcode_coder::str::StrDecoder;
 use bitcode_derive::absent::AbsentDecoder;
 use bitcode_ints::checked::CheckedIntDecoder;
-use bitcode_ints::int::IntDecoder;
+use bitcode_ints::signed_coders::{I8Decoder, I16Decoder, I32Decoder, I64Decoder, I128Decoder};
+use bitcode_ints::unsigned_coders::{U8Decoder, U16Decoder, U32Decoder, U64Decoder, U128Decoder};
 use bitcode_memory::consume::mul_length;
 use bitcode_memory::error::{Error, Reason};
 use bitcode_memory::refuse::err;
@@ -113,16 +114,16 @@ pub(crate) fn make_ints<'a>(
         input.old.now input.new.now values.items) }
 {
     match kind {
-        IntKind::U8 => make_leaf::<u8, IntDecoder<u8>>(alloc, input, k),
-        IntKind::U16 => make_leaf::<u16, IntDecoder<u16>>(alloc, input, k),
-        IntKind::U32 => make_leaf::<u32, IntDecoder<u32>>(alloc, input, k),
-        IntKind::U64 => make_leaf::<u64, IntDecoder<u64>>(alloc, input, k),
-        IntKind::U128 => make_leaf::<u128, IntDecoder<u128>>(alloc, input, k),
-        IntKind::I8 => make_leaf::<i8, IntDecoder<i8>>(alloc, input, k),
-        IntKind::I16 => make_leaf::<i16, IntDecoder<i16>>(alloc, input, k),
-        IntKind::I32 => make_leaf::<i32, IntDecoder<i32>>(alloc, input, k),
-        IntKind::I64 => make_leaf::<i64, IntDecoder<i64>>(alloc, input, k),
-        IntKind::I128 => make_leaf::<i128, IntDecoder<i128>>(alloc, input, k),
+        IntKind::U8 => make_leaf::<u8, U8Decoder>(alloc, input, k),
+        IntKind::U16 => make_leaf::<u16, U16Decoder>(alloc, input, k),
+        IntKind::U32 => make_leaf::<u32, U32Decoder>(alloc, input, k),
+        IntKind::U64 => make_leaf::<u64, U64Decoder>(alloc, input, k),
+        IntKind::U128 => make_leaf::<u128, U128Decoder>(alloc, input, k),
+        IntKind::I8 => make_leaf::<i8, I8Decoder>(alloc, input, k),
+        IntKind::I16 => make_leaf::<i16, I16Decoder>(alloc, input, k),
+        IntKind::I32 => make_leaf::<i32, I32Decoder>(alloc, input, k),
+        IntKind::I64 => make_leaf::<i64, I64Decoder>(alloc, input, k),
+        IntKind::I128 => make_leaf::<i128, I128Decoder>(alloc, input, k),
     }
 }
 
@@ -192,7 +193,7 @@ pub(crate) fn make_durations<'a>(
         (λ v. under (fields_of v) (fields_content span_contents)) k
         input.old.now input.new.now values.items) }
 {
-    let seconds = make_leaf::<u64, IntDecoder<u64>>(alloc, input, k)?;
+    let seconds = make_leaf::<u64, U64Decoder>(alloc, input, k)?;
     let nanos = make_leaf::<Nanosecond, CheckedIntDecoder<Nanosecond, u32>>(alloc, input, k)?;
     let spans = zipped(alloc, seconds, nanos)?;
     each::<(Value, Value), Value, AsSpan>(alloc, spans)
@@ -210,7 +211,7 @@ pub(crate) fn make_uuids<'a>(
         input.old.now input.new.now values.items) }
 {
     let count = mul_length(k, 16)?;
-    let bytes = make_leaf::<u8, IntDecoder<u8>>(alloc, input, count)?;
+    let bytes = make_leaf::<u8, U8Decoder>(alloc, input, count)?;
     arrays(alloc, 16, k, bytes)
 }
 
