@@ -34,7 +34,6 @@ PLAIN = {
 }
 # How many types the encoders of these types name.
 WEIGHTS = {
-    "Duration": 4,
     "IpAddr": 5,
     "Range": 3,
     "RangeInclusive": 3,

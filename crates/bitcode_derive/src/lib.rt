@@ -5,6 +5,7 @@ pub mod absent;
 pub mod buffer;
 pub mod closed;
 pub mod derive;
+pub mod durations;
 mod impls;
 pub mod laws;
 pub mod map;

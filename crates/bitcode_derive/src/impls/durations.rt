@@ -1,26 +1,16 @@
 //! The coders of durations.
 use crate::derive::{DecodeOwned, HasDecoder, HasEncoder};
+use crate::durations::{DurationDecoder, DurationEncoder};
 use bitcode_ints::checked::CheckedIntDecoder;
-use bitcode_ints::int::{IntDecoder, IntEncoder};
-use bitcode_parts::convert::{ConvertFromDecoder, ConvertIntoEncoder};
-use bitcode_parts::durations::{DurationDecode, DurationEncode};
 use bitcode_shapes::nanosecond::Nanosecond;
-use bitcode_tuples::decoder::TupleDecoder;
-use bitcode_tuples::encoder::TupleEncoder;
 use std::time::Duration;
 
 impl HasEncoder for Duration {
-    type Encoder = ConvertIntoEncoder<
-        DurationEncode,
-        TupleEncoder<IntEncoder<u64>, IntEncoder<u32>>,
-    >;
+    type Encoder = DurationEncoder;
 }
 
 impl<'a> HasDecoder<'a> for Duration {
-    type Decoder = ConvertFromDecoder<
-        DurationDecode,
-        TupleDecoder<IntDecoder<'a, u64>, CheckedIntDecoder<'a, Nanosecond, u32>>,
-    >;
+    type Decoder = DurationDecoder<'a>;
 }
 
 impl DecodeOwned for Duration {}
