@@ -1,4 +1,4 @@
-//! The types that can be encoded and decoded, the coders of maps, and the calls for whole values.
+//! The types that can be encoded and decoded, the coders of maps and of durations, and the calls for whole values.
 #![tactic(auto)]
 
 pub mod absent;
