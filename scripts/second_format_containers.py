@@ -158,7 +158,7 @@ pub {fn}-{one}-requires : goal.{fn}-{one}-requires
 pub {fn}-loop-i-init : goal.{fn}-loop-i-init
 {fn}-loop-i-init t c =
     let found = c.in_ok-found.found in
-    let empty : c.first_room-pairs.result.items ≡ [] = search rules in
+    let empty : c.new-pairs.result.items ≡ [] = search rules in
     subst (λ ps. PairsKept {part.key()} {value} {trees} found.keys found.values
     c.enter_map.new.reader c.enter_map.new.budget 0 ps c.enter_map.new.reader c.enter_map.new.budget) (sym empty)
     (no_pairs {part.key()} {value} {trees} found.keys found.values

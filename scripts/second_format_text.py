@@ -246,7 +246,7 @@ def held_read(part, left, place, name, value, indent, found="found"):
     """Reads a value of the group, a box or a list of such, at a place."""
     if part.is_inside:
         return f"""{indent}let {found} = enter_list(reader, budget, false, {place})?;
-{indent}let mut {name} = budget.first_room(alloc, {found}.count);
+{indent}let mut {name} = Vec::new(alloc);
 {indent}for _i in 0..{found}.count {{
 {indent}    let item = read_{part.of.word}(alloc, reader, budget, {left}, {found}.place)?;
 {indent}    budget.keep(&mut {name}, item)?;
@@ -333,7 +333,7 @@ def reading(group):
         )
     for shaped in group.lists:
         body = f"""    let found = enter_list(reader, budget, false, place)?;
-    let mut items = budget.first_room(alloc, found.count);
+    let mut items = Vec::new(alloc);
     for _i in 0..found.count {{
         let item = read_{shaped.word}(alloc, reader, budget, left, found.place)?;
         budget.keep(&mut items, item)?;
@@ -351,7 +351,7 @@ def reading(group):
         )
     for part in group.maps:
         body = f"""    let found = enter_map(reader, budget, place)?;
-    let mut pairs = budget.first_room(alloc, found.count);
+    let mut pairs = Vec::new(alloc);
     for _i in 0..found.count {{
         budget.take(1);
         let key: {part.type.parts[0].name} = read_at(alloc, reader, budget, left, found.keys)?;

@@ -83,7 +83,7 @@ fn read_comment<'a>(
     let text: &'a str = read_field(alloc, reader, budget, below, place, 0, 2)?;
     let place1 = find_field(reader, place, 1, 2)?;
     let found1 = enter_list(reader, budget, false, place1)?;
-    let mut replies = budget.first_room(alloc, found1.count);
+    let mut replies = Vec::new(alloc);
     for _i in 0..found1.count {
         let item = read_comment(alloc, reader, budget, below, found1.place)?;
         budget.keep(&mut replies, item)?;

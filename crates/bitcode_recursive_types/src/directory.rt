@@ -118,7 +118,7 @@ fn read_directory(
     let name: String = read_field(alloc, reader, budget, below, place, 0, 2)?;
     let place1 = find_field(reader, place, 1, 2)?;
     let found1 = enter_list(reader, budget, false, place1)?;
-    let mut entries = budget.first_room(alloc, found1.count);
+    let mut entries = Vec::new(alloc);
     for _i in 0..found1.count {
         let item = read_entry(alloc, reader, budget, below, found1.place)?;
         budget.keep(&mut entries, item)?;

@@ -157,7 +157,7 @@ fn read_expr_call(
     let field0: String = read_field(alloc, reader, budget, left, place, 0, 2)?;
     let place1 = find_field(reader, place, 1, 2)?;
     let found1 = enter_list(reader, budget, false, place1)?;
-    let mut field1 = budget.first_room(alloc, found1.count);
+    let mut field1 = Vec::new(alloc);
     for _i in 0..found1.count {
         let item = read_expr(alloc, reader, budget, left, found1.place)?;
         budget.keep(&mut field1, item)?;
@@ -213,7 +213,7 @@ fn read_expr_by_string(
         (λ e. IsRefusalAt (map_tree text_tree (expr_tree left)) place reader.old e.reason) }
 {
     let found = enter_map(reader, budget, place)?;
-    let mut pairs = budget.first_room(alloc, found.count);
+    let mut pairs = Vec::new(alloc);
     for _i in 0..found.count {
         budget.take(1);
         let key: String = read_at(alloc, reader, budget, left, found.keys)?;

@@ -81,7 +81,7 @@ fn read_node(
     let weight: i32 = read_field(alloc, reader, budget, below, place, 1, 4)?;
     let place2 = find_field(reader, place, 2, 4)?;
     let found2 = enter_list(reader, budget, false, place2)?;
-    let mut children = budget.first_room(alloc, found2.count);
+    let mut children = Vec::new(alloc);
     for _i in 0..found2.count {
         let item = read_node(alloc, reader, budget, below, found2.place)?;
         budget.keep(&mut children, item)?;

@@ -6,9 +6,6 @@ ghost use Rattle.bitcode_serde.specs.declared.budget.Budget.TheVariants.{Endless
 use bitcode_memory::error::{Error, Reason};
 use std::alloc::Global;
 
-// For so many items a list has room before the first is read.
-const FIRST_ROOM: usize = 256;
-
 /// How many more nodes of a value may be kept.
 #[derive(Clone, Copy)]
 pub enum Budget {
@@ -63,19 +60,6 @@ impl Budget {
         match self {
             Budget::Endless => Ok(Vec::with_capacity(alloc, count)?),
             _ => Ok(Vec::new(alloc)),
-        }
-    }
-
-    /// An empty list for `count` items. Without a limit it has room for the first 256 of them, if there is memory: the
-    /// input may lack the others. With a limit it has no memory.
-    #[inline(always)]
-    pub fn first_room<T>(&self, alloc: Global, count: usize) -> Vec<T>
-        ensures empty { result.items ≡ [] }
-        ensures bounded { self.now ≢ Endless → vec_capacity result ≡ 0 }
-    {
-        match self.room(alloc, count.min(FIRST_ROOM)) {
-            Ok(items) => items,
-            Err(_) => Vec::new(alloc),
         }
     }
 

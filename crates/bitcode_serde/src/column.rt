@@ -101,6 +101,7 @@ pub enum Column<'a> {
 #[derive(Drop)]
 pub enum WrittenColumn {
     Bools(BoolEncoder),
+    // Whole slices are written to it, by `IntEncoder::extend`.
     Bytes(IntEncoder<u8>),
     U16(U16Encoder),
     U32(U32Encoder),

@@ -41,6 +41,9 @@ impl<T: SerializeAs> SerializeAs for Vec<T> {
     }
 }
 
+// Without a limit, a list has room for so many elements at first: the input may lack the others.
+const FIRST_ROOM: usize = 256;
+
 // Reads the elements of a list.
 fn read_elements<'a, T: DeserializeAs<'a>>(
     alloc: Global,
@@ -59,7 +62,7 @@ fn read_elements<'a, T: DeserializeAs<'a>>(
     ensures refused { IfErr result
         (λ e. IsListRefusalAt (T.tree left) list.place reader.old list.count e.reason) }
 {
-    let mut values: Vec<T> = budget.first_room(alloc, list.count);
+    let mut values: Vec<T> = budget.room(alloc, list.count.min(FIRST_ROOM))?;
     for _i in 0..list.count {
         if budget.is_spent() && T::is_free() {
             return Ok(values);

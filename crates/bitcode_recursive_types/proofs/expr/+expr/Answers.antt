@@ -239,7 +239,7 @@ read_expr_by_string-returns-in_err-keep-clause-refused t c =
 pub read_expr_by_string-loop-i-init : goal.read_expr_by_string-loop-i-init
 read_expr_by_string-loop-i-init t c =
     let found = c.in_ok-found.found in
-    let empty : c.first_room-pairs.result.items ≡ [] = search rules in
+    let empty : c.new-pairs.result.items ≡ [] = search rules in
     subst (λ ps. PairsKept (λ s. text (string_bytes s)) expr_datum text_tree (expr_tree c.args.left) found.keys found.values
     c.enter_map.new.reader c.enter_map.new.budget 0 ps c.enter_map.new.reader c.enter_map.new.budget) (sym empty)
     (no_pairs (λ s. text (string_bytes s)) expr_datum text_tree (expr_tree c.args.left) found.keys found.values

@@ -24,9 +24,9 @@ pub returns-in_err-value-clause-refused : goal.returns-in_err-value-clause-refus
 returns-in_err-value-clause-refused g c =
     let s = g.T.SerializeAs.tree c.args.left in
     let l = c.loop-i in
-    let y = err_from_is_err_and c.from_residual.result c.from_residual.ensures.1 in
+    let y = err_from_is_err_and c.from_residual-in_err-value.result c.from_residual-in_err-value.ensures.1 in
     let lt : l._i < c.args.list.count = omega arith in
-    passed_on (λ e. IsListRefusalAt s c.args.list.place c.args.reader.now c.args.list.count e.reason) c.from_residual.result c.in_err-value.field-0.0 y.0 y.1 y.2
+    passed_on (λ e. IsListRefusalAt s c.args.list.place c.args.reader.now c.args.list.count e.reason) c.from_residual-in_err-value.result c.in_err-value.field-0.0 y.0 y.1 y.2
     (element_refused g.T.SerializeAs.datum s c.args.list.place c.args.reader.now l.reader c.args.budget.now l.budget l._i l.values.items l.invariant.0
     c.args.list.count _ lt c.in_err-value.ensures.refused)
 
