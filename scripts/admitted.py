@@ -272,7 +272,7 @@ def admitted(text, item):
     }
     compared = set(re.findall(r"\bint_l[et]\b", filled(CHECKED) + law))
     text = re.sub(
-        r"(?m)^ghost use Rattle\.bitcode\.specs\.ByHand\.\{columns_alike, data_as, ", "ghost use Rattle.bitcode.specs.ByHand.{columns_alike, ", text
+        r"(?m)^ghost use Rattle\.bitcode\.specs\.ByHand\.\{data_as, ", "ghost use Rattle.bitcode.specs.ByHand.{", text
     )
     text = with_names(text, "Rattle.bitcode.specs.ByHand", words)
     signs = {sign for sign in ("◌&&◌", "◌||◌") if sign.strip("◌") in row["of_parts"]} | (

@@ -42,7 +42,7 @@ WEIGHTS = {
     "SocketAddrV6": 6,
 }
 # What `use` lines bring in for coders of one's own.
-NEEDED = "bitcode::coder::{Buffer, ColumnFree, Decoder, EncodeMany, Encoder, HoldsData, NewDecoder, View}"
+NEEDED = "bitcode::coder::{Buffer, ColumnFree, Decoder, EncodeMany, Encoder, HoldsColumns, HoldsData, NewDecoder, View}"
 
 # The columns of an encoder, which are those of the encoder that it forwards to.
 HOLDER = """/// The columns of `$simple`.
@@ -51,17 +51,21 @@ pub struct ${simple}Encoder {
     fields: $held,
 }
 
-impl Buffer for ${simple}Encoder {
-    ghost columns = { λ e. ⟦<$held as Buffer>⟧.columns e.fields };
+impl HoldsColumns for ${simple}Encoder {
+    ghost columns = { λ e. ⟦<$held as HoldsColumns>⟧.columns e.fields };
 
-    ghost room = { λ e. ⟦<$held as Buffer>⟧.room e.fields };
+    ghost room = { λ e. ⟦<$held as HoldsColumns>⟧.room e.fields };
 
-    ghost capacity = { λ e. ⟦<$held as Buffer>⟧.capacity e.fields };
+    ghost capacity = { λ e. ⟦<$held as HoldsColumns>⟧.capacity e.fields };
 
     ghost surely_overflows = { λ e n. $surely };
 
-    ghost overflows = { λ e n. ⟦<$held as Buffer>⟧.overflows e.fields n };
+    ghost overflows = { λ e n. ⟦<$held as HoldsColumns>⟧.overflows e.fields n };
 
+    ghost writes_free = { ⟦<$held as HoldsColumns>⟧.writes_free };
+}
+
+impl Buffer for ${simple}Encoder {
     fn new(alloc: Global) -> Self {
         ${simple}Encoder { fields: Buffer::new(alloc) }
     }
@@ -81,8 +85,6 @@ impl Buffer for ${simple}Encoder {
 
 """
 ENCODER = """impl$shaped Encoder<$name> for ${simple}Encoder {
-    ghost writes_free = { $free };
-
     fn encode(&mut self, t: &$name) -> Result<(), Error> {
         Encoder::<$name>::encode(&mut self.fields, t)
     }
@@ -100,6 +102,10 @@ impl$shaped EncodeMany<$name> for ${simple}Encoder {
     fn encode_part_of_each<S, W: Part<S, $name>>(&mut self, items: &[S], which: &W, first: &$name) -> Result<(), Error> {
         EncodeMany::<$name>::encode_part_of_each(&mut self.fields, items, which, first)
     }
+
+    ghost of_shape = { λ e. refl };
+
+    ghost surely = { λ e n h. $law };
 }
 
 impl$shaped HasEncoder for $name {
@@ -108,19 +114,13 @@ impl$shaped HasEncoder for $name {
 
 """
 # The encoder of a part of the fields of a struct, which borrows them from the struct.
-PART = """impl$shaped PartEncoder<$whole, $name> for ${simple}Encoder {
+PART = """impl$shaped PartOf<$whole> for $name {
     ghost shape = { $shape };
 
     ghost lists = { $lists };
+}
 
-    ghost columns = { ⟦<${simple}Encoder as Buffer>⟧.columns };
-
-    ghost room = { ⟦<${simple}Encoder as Buffer>⟧.room };
-
-    ghost surely_overflows = { ⟦<${simple}Encoder as Buffer>⟧.surely_overflows };
-
-    ghost writes_free = { $free };
-
+impl$shaped PartEncoder<$whole, $name> for ${simple}Encoder {
     fn encode_part(&mut self, whole: &$whole) -> Result<(), Error> {
         PartEncoder::<$whole, $numbers>::encode_part(&mut self.fields, whole)
     }
@@ -129,8 +129,14 @@ PART = """impl$shaped PartEncoder<$whole, $name> for ${simple}Encoder {
         PartEncoder::<$whole, $numbers>::write_part(&mut self.fields, whole, out)
     }
 
+    ghost of_shape = { λ e. refl };
+
+    ghost surely = { λ e n h. $law };
+}
+
+impl$shaped PartsEncoder<$whole, $name> for ${simple}Encoder {
     fn encode_part_in_each<S, W: Part<S, $whole>>(&mut self, items: &[S], which: &W) -> Result<(), Error> {
-        PartEncoder::<$whole, $numbers>::encode_part_in_each(&mut self.fields, items, which)
+        PartsEncoder::<$whole, $numbers>::encode_part_in_each(&mut self.fields, items, which)
     }
 
     ghost of_shape = { λ e. refl };
@@ -312,22 +318,6 @@ def is_closed(item, own):
     return item.name in own and own[item.name].is_closed
 
 
-def inside(item, own, *parts):
-    """A type that names these types, and what is inside the fields: all types whose values own memory."""
-    still, names = item.lifetime or "'static", list(parts)
-    for type in own_types_of(item, own):
-        known = own[type.name]
-        lifetimes = [part.name for part in type.parts if part.kind == "lifetime"]
-        of = f"<{lifetimes[0]}>" if lifetimes else ""
-        name = (
-            f"{known.path.rsplit('::', 1)[0]}::{type.name}Inside{of}"
-            if known.is_closed
-            else f"<{of_text(type)} as HasDecoder<{still}>>::Decoder"
-        )
-        names += [name] if name not in names and (known.is_closed or not item.types) else []
-    return f"({', '.join(names)}{',' * (len(names) == 1)})"
-
-
 def with_arguments(type, item, parts):
     """The type with what the item takes in the place of its parameters."""
     lifetimes = [part for part in parts if part.kind == "lifetime"]
@@ -337,50 +327,6 @@ def with_arguments(type, item, parts):
         return given[type.name]
     name = given[type.name].name if type.kind in ("array", "reference") and type.name in given else type.name
     return type._replace(name=name, parts=[with_arguments(part, item, parts) for part in type.parts])
-
-
-def with_paths(type, own):
-    """The type with the whole path of each name."""
-    known = TYPES.get(type.name) if type.kind == "path" else None
-    path = own[type.name].path if type.kind == "path" and type.name in own else known.path if known else None
-    return type._replace(name=path or type.name, parts=[with_paths(part, own) for part in type.parts])
-
-
-def held_types(type, own):
-    """The types of the fields of open types of one's own that the type names, and of the fields inside these."""
-    found = [inner for part in type.parts for inner in held_types(part, own)]
-    item = own[type.name].item if type.kind == "path" and type.name in own and not own[type.name].is_closed else None
-    if not item or not is_pair(item) and not item.types:
-        return found
-    for field in fields_of(item):
-        inner = with_arguments(field.type, item, type.parts)
-        found += [inner, *held_types(inner, inside_of(type, own))]
-    return found
-
-
-def types_inside(item, own):
-    """The types inside those of the item's fields whose values own memory, with their paths."""
-    found = [inner for field in fields_of(item) for inner in held_types(field.type, own)]
-    known = {name: one for name, one in own.items() if name not in item.types}
-    texts = [of_text(with_paths(inner, known)) for inner in found if owns_memory(inner, known)]
-    return [text for place, text in enumerate(texts) if text not in texts[:place] and text not in item.types]
-
-
-def is_quoted(type, own):
-    """Whether the toolchain states what the encoder of the type does, where no type of all that is inside is named."""
-    found = [own[type.name] for type in own_types_in(type, own)]
-    return all(known.is_closed or known.item and not (known.item.types or known.item.consts) for known in found)
-
-
-def writes_free(fields, own, nested):
-    """That writing takes no memory if it takes none for any of the fields, in their nested pairs."""
-    types = [field.type for field in fields]
-    text = nested([f"\0{number}\0" for number in range(len(types))]).replace(", ", " && ")
-    for number, type in enumerate(types):
-        of = of_text(type)
-        quote = f"⟦<<{of} as HasEncoder>::Encoder as Encoder<{of}>>⟧.writes_free" if is_quoted(type, own) else "false"
-        text = text.replace(f"\0{number}\0", quote)
-    return text
 
 
 def still_of(item, life):
@@ -416,25 +362,25 @@ def has_arrays(item, own):
 def reserving(item, own, shape, held, call):
     """What `Buffer` says of too many arrays, its law, and how room is reserved: with that call if there may be some."""
     if has_arrays(item, own):
-        surely = f"SurelyOverflows {shape} (⟦<{held} as Buffer>⟧.columns e.fields) n"
+        surely = f"SurelyOverflows {shape} (⟦<{held} as HoldsColumns>⟧.columns e.fields) n"
         return {"surely": surely, "law": "h", "reserve": call}
     return {"surely": "⊥", "law": "absurd h", "reserve": "self.fields.reserve(n)"}
 
 
-def encoder_text(item, own, free, name, life, shaped, fields):
-    """The encoder of the item, which has the encoder of its fields."""
+def encoder_text(item, own, name, life, shaped, encoder):
+    """The encoder of the item, which holds that one."""
     still = still_of(item, life)
-    held = "Held" + (still if fields.endswith(">") else "")
+    taken = life if item.lifetime and item.lifetime in encoder else ""
+    held = "Held" + still_of(item, taken)
     shape = f"⟦<{item.name}{still} as Shaped>⟧.data.shape"
     row = {
         "simple": item.name,
         "name": name,
         "held": held,
         "shaped": shaped,
-        "free": free,
     }
     row |= reserving(item, own, shape, held, f"reserve_as::<{item.name}{still}, _>(&mut self.fields, n)")
-    alias = f"type Held{fields.removeprefix('Fields')} = StructEncoder<{fields}>;\n\n"
+    alias = f"type Held{taken} = {encoder};\n\n"
     return alias + Template(HOLDER + ENCODER).substitute(row)
 
 
@@ -447,7 +393,7 @@ def lists_of(fields, nested):
     return text[1:-1]
 
 
-def part_encoder_text(part, own, number, struct, life, free, lists, types, numbers):
+def part_encoder_text(part, own, number, struct, life, lists, types, numbers):
     """The encoder of a part of the fields of a struct, of whose types and numbers these are the nested pairs."""
     name, whole = part.name + (life if part.lifetime else ""), struct.name + life
     pairs, held, names = (f"{alias}{number}" for alias in ("Pairs", "Held", "Numbers"))
@@ -463,7 +409,6 @@ def part_encoder_text(part, own, number, struct, life, free, lists, types, numbe
         "numbers": names,
         "shape": shape,
         "shaped": life,
-        "free": free,
         "lists": lists,
     }
     call = f"reserve_part::<{whole_still}, {names}, _>(&mut self.fields, n)"

@@ -169,7 +169,7 @@ class Generic(Numbered):
             "shaped": shaped,
             "es": ", ".join(name for name, _ in es),
             "ds": ", ".join(ds),
-            "encoding": f"impl<{shaped}, {', '.join(f'{name}: Encoder<{type}>' for name, type in es)}>",
+            "encoding": f"impl<{shaped}, {', '.join(f'{name}: Buffer + Encoder<{type}>' for name, type in es)}>",
             "buffers": ", ".join(f"{name}: Buffer" for name, _ in es),
             "encoders": f"Encoders{self.count}<At<0>, {', '.join(encoders)}>",
             "decoding": ", ".join(decoding),

@@ -18,7 +18,7 @@ TAKEN |= {name: f"`{name}` is a name of std's prelude, {OF_THE_FILES}" for name 
 # Modules that the crate has already, or that would hide a crate that the files name.
 MODULES = set("alloc arrayvec bitcode core lib main std uuid".split())
 # What the file of a struct with coders of its own declares.
-CODERS = {"Encoder": "its encoder", "Decoder": "its decoder", "Inside": "the types inside it"}
+CODERS = {"Encoder": "its encoder", "Decoder": "its decoder"}
 PART_CODERS = {"Encoder": "the encoder", "Decoder": "the decoder"}
 # What ends the names of the user's types while a file is written that uses one of them for something else.
 MARK = "ˣ"

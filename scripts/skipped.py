@@ -111,7 +111,7 @@ def with_skipped(text, struct):
     if not getattr(struct, "skipped", ()):
         return text
     values = [default for _, default in defaults(struct)]
-    text = text.replace("ByHand.{columns_alike, data_as, ", "ByHand.{columns_alike, ")
+    text = text.replace("ByHand.{data_as, ", "ByHand.{")
     text = with_names(text, "Rattle.bitcode.specs.ByHand", {"skipped_data"}.union(*(value.by_hand for value in values)))
     names = set().union(*(value.names for value in values))
     text = with_names(text, "Rattle.std.specs.Prelude", names) if names else text

@@ -49,7 +49,7 @@ ${encoded}${apart}impl$has_decoder HasDecoder<$input> for $name {
     type Decoder = $decoder;
 }
 $owned"""
-# A field that a struct lends, and the encoder of all of them.
+# A field that a struct lends, and the numbers of all of them.
 FIELD = """impl$parameters HasField<$number> for $name {
 ${ghost_use}    type Field = $type;
 
@@ -61,14 +61,12 @@ ${ghost_use}    type Field = $type;
 }
 
 """
-IN_FIELDS = """type $fields = $encoders;
-
-impl$encoded InFields<$by> for $name {
+IN_FIELDS = """impl$shaped InFields for $name {
     type Numbers = $numbers;
 
     type Inside = $inside;
 
-    ghost same_columns = { columns_alike refl };
+    ghost same_columns = { refl };
 
     ghost of_fields = { λ d h. h };
 
@@ -77,7 +75,7 @@ impl$encoded InFields<$by> for $name {
 
 """
 OPEN_ENCODER = """impl$has_encoder HasEncoder for $name {
-    type Encoder = StructEncoder<Fields$life>;
+    type Encoder = $encoder;
 }
 
 """
@@ -241,17 +239,13 @@ def in_a_head(item, types, prefix, first=0):
     return [names.get(type, type) for type in types], aliases
 
 
-def inside(item, own, types):
-    """A type that names those of all fields and of all that is inside them: the toolchain states no impl without it."""
-    if closed.is_closed(item, own):
-        return f"{item.name}Inside" + arguments(item)
-    if is_generic(item):
-        has_closed = any(own[found.name].is_closed for found in closed.own_types_of(item, own))
-        types = [*types, *(text for text in closed.types_inside(item, own) if text not in types)]
-        return closed.inside(item, own, *types) if has_closed else halved(types) if types else "()"
-    still = item.lifetime or "'static"
-    apart = [f"<{text} as HasDecoder<{still}>>::Decoder" for text in types_left(item, own)[1]]
-    return halved([f"<{item.name}{arguments(item)} as HasDecoder<{still}>>::Decoder", *apart])
+def encoder_of(types, parts):
+    """The encoder of a struct with fields of these types: that of their tuple, which of three and more is one of a
+    struct. `parts` is what the struct corresponds to."""
+    if len(types) > 2:
+        whole = parts if len(types) <= MOST_FLAT else f"({', '.join(types)})"
+        return f"<{whole} as HasEncoder>::Encoder"
+    return f"StructEncoder<<{paired(types) if types else '()'} as HasEncoder>::Encoder>"
 
 
 def lent_text(item, lent, ghost_use=""):
@@ -262,21 +256,18 @@ def lent_text(item, lent, ghost_use=""):
     return "".join(texts)
 
 
-def fields_text(item, own, lent, law, ghost_use=""):
+def fields_text(item, own, lent, law, parts, ghost_use=""):
     """How the fields are lent, of the terms and bodies that give each of them, and by what they are encoded."""
     types, name = [of_text(field.type) for field in fields_of(item)], item.name + arguments(item)
-    numbers = [f"Nth<{number}>" for number in range(len(types))]
-    nested, numbers = (paired(types), paired(numbers)) if types else ("()", "()")
-    life, has_encoder = arguments(item), bounds(item, "HasEncoder")
+    numbers = paired([f"Nth<{number}>" for number in range(len(types))]) if types else "()"
+    life, shaped, encoder = arguments(item), bounds(item, "Shaped"), encoder_of(types, parts)
     if closed.is_closed(item, own):
-        free = closed.writes_free(fields_of(item), own, paired) if types else "⟦<<() as HasEncoder>::Encoder as Encoder<()>>⟧.writes_free"
-        encoder = closed.encoder_text(item, own, free, name, life, bounds(item, "Shaped"), "Fields" + life)
+        coder = closed.encoder_text(item, own, name, life, shaped, encoder)
     else:
-        encoder = Template(OPEN_ENCODER).substitute(has_encoder=has_encoder, name=name, life=life)
-    return lent_text(item, lent, ghost_use) + Template(IN_FIELDS).substitute(
-        fields="Fields" + bounds(item, ""), encoders=f"<{nested} as HasEncoder>::Encoder", encoded=bounds(item, "Encode"), by="Fields" + life,
-        name=name, numbers=numbers, inside=inside(item, own, types), alike="λ t. " + (law if len(types) < 2 else law[1:-1]),
-    ) + encoder
+        coder = Template(OPEN_ENCODER).substitute(has_encoder=bounds(item, "HasEncoder"), name=name, encoder=encoder)
+    alike_law = "λ t. " + (law if len(types) < 2 else law[1:-1])
+    in_fields = Template(IN_FIELDS).substitute(shaped=shaped, name=name, numbers=numbers, inside=parts, alike=alike_law)
+    return lent_text(item, lent, ghost_use) + in_fields + coder
 
 
 def types_left(item, own):
@@ -295,20 +286,11 @@ def types_left(item, own):
     return left, apart
 
 
-def closed_parts(item, own, name, input, parts, decoder):
-    """What names the types of all that is inside, the item's own decoder, and its type."""
-    text = f"/// Names the types of all that is inside `{item.name}`.\npub type {item.name}Inside{arguments(item)} = {closed.inside(item, own, parts)};\n\n"
-    return text, closed.decoder_text(item.name, name, input, decoder, closed.item_reads_one(item, own)), f"{item.name}Decoder<{input}>"
-
-
 def closed_head(item, own):
     """What the contracts of coders of the item's own are stated in."""
     if not closed.is_closed(item, own):
         return "", set()
-    words = ["◌&&◌"] if len(fields_of(item)) > 1 else []
-    words += [] if closed.item_reads_one(item, own) is False else ["IfSome"]
-    words += [] if all(closed.is_quoted(field.type, own) for field in fields_of(item)) else ["false"]
-    operators = f"ghost use Rattle.std.specs.Prelude.{{{', '.join(words)}}};\n" if words else ""
+    operators = "" if closed.item_reads_one(item, own) is False else "ghost use Rattle.std.specs.Prelude.{IfSome};\n"
     return operators, {"Part"} | ({"reserve_as"} if closed.has_arrays(item, own) else set())
 
 
@@ -346,9 +328,9 @@ def tuple_text(item, imports, own, lent, **row):
     """The file of what stands for the tuple of its fields, of what is said of these."""
     is_owned = not item.lifetime
     fields, name, input = fields_of(item), item.name + arguments(item), item.lifetime or "'a"
-    used = {"ConvertFrom", "Error", "HasDecoder", "HasEncoder", "InFields", "Shaped", "StructEncoder"}
+    used = {"ConvertFrom", "Error", "HasDecoder", "HasEncoder", "InFields", "Shaped"}
+    used |= {"StructEncoder"} if len(fields) < 3 else set()
     used |= {"HasField", "Nth"} if fields else set()
-    used |= {"Encode"} if item.types else set()
     used |= {"DecodeOwned"} if is_owned else set()
     parts, alias = halved([of_text(field.type) for field in fields]) if fields else "()", "Parts" + arguments(item)
     is_long = len(row["pattern"]) + len(parts) > MOST_IN_LINE
@@ -360,19 +342,18 @@ def tuple_text(item, imports, own, lent, **row):
     reads_one = is_closed and closed.item_reads_one(item, own) is not False
     stated = ["ReadsValue"] if reads_one else []
     stated += ["SurelyOverflows"] if is_closed and closed.has_arrays(item, own) else []
-    by_hand = [*stated, "columns_alike", "data_as", "field_alike", *(["pair_alike"] if len(fields) > 1 else []), "refl"]
+    by_hand = [*stated, "data_as", "field_alike", *(["pair_alike"] if len(fields) > 1 else []), "refl"]
     operators, more = closed_head(item, own)
     used |= more
-    named = ""
     if is_closed:
-        named, text, type_of_decoder = closed_parts(item, own, name, input, alias if is_long else parts, type_of_decoder)
-        apart += text
+        apart += closed.decoder_text(item.name, name, input, type_of_decoder, closed.item_reads_one(item, own))
+        type_of_decoder = f"{item.name}Decoder<{input}>"
     lines = [f"use bitcode::{{{', '.join(sorted(used))}}};", *(f"use {path};" for path in sorted(imports))]
     row |= {
         "decoder": type_of_decoder,
         "apart": apart,
         "operators": operators,
-        "alias": (f"type Parts{bounds(item, '')} = {parts};\n\n" if is_long else "") + named,
+        "alias": f"type Parts{bounds(item, '')} = {parts};\n\n" if is_long else "",
         "uses": "\n".join(sorted(lines)) + "\n",
         "name": name,
         "parts": alias if is_long else parts,
@@ -383,7 +364,7 @@ def tuple_text(item, imports, own, lent, **row):
         "by_hand": f"ghost use Rattle.bitcode.specs.ByHand.{{{', '.join(by_hand)}}};\n",
         "has_decoder": bounds(item, f"HasDecoder<{input}>", input),
         "input": input,
-        "encoded": fields_text(item, own, lent, alike(max(len(fields), 1)), row["ghost_use"]),
+        "encoded": fields_text(item, own, lent, alike(max(len(fields), 1)), alias if is_long else parts, row["ghost_use"]),
         "owned": Template(OWNED).substitute(parameters=bounds(item, "DecodeOwned"), name=name) if is_owned else "",
     }
     return Template(HEAD + BODY).substitute(row)

@@ -5,9 +5,9 @@ from string import Template
 from declarations import fields_of
 from known_types import Checker, names_in, of_text, types_in
 from tokens import Refused
-from closed import NEEDED, decoder_text, encoder_text, has_arrays, item_reads_one, lists_of, part_encoder_text, writes_free
-from structs import BODY, DATA, HEAD, IN_FIELDS, OWNED, alike, arguments, bounds, closed_head, closed_parts, declaration, decoder_of_parts
-from structs import halved, initialized, inside, is_generic, lent_text, paired, parameter, paths, places, quoted
+from closed import NEEDED, decoder_text, encoder_text, has_arrays, item_reads_one, lists_of, part_encoder_text
+from structs import BODY, DATA, HEAD, IN_FIELDS, OWNED, alike, arguments, bounds, closed_head, declaration, decoder_of_parts
+from structs import halved, initialized, is_generic, lent_text, paired, parameter, paths, places, quoted
 
 # A struct has no more fields than these, which name no more types: of more the borrow checker covers no encoder.
 MOST_WIDE = MOST_ENCODED = 48
@@ -81,16 +81,12 @@ def encoders_text(struct, parts, own):
         numbers = [f"Nth<{at}>" for at in range(first, first + len(part.fields))]
         types = [of_text(field.type) for field in part.fields]
         first += len(part.fields)
-        texts.append(part_encoder_text(part, own, number, struct, life, writes_free(part.fields, own, paired), lists_of(part.fields, paired), paired(types), paired(numbers)))
+        texts.append(part_encoder_text(part, own, number, struct, life, lists_of(part.fields, paired), paired(types), paired(numbers)))
     whole, name = [part.name + arguments(part) for part in parts], struct.name + life
-    each = [f"⟦<{part.name}Encoder as PartEncoder<{name}, {of}>>⟧.writes_free" for part, of in zip(parts, whole)]
-    in_fields = Template(IN_FIELDS).substitute(
-        fields="Fields", encoders=nested_encoders([part.name for part in parts]), encoded=life, by="Fields", name=name, numbers=paired(whole),
-        inside=inside(struct, own, []), alike="λ t. " + alike_parts([len(part.fields) for part in parts])[1:-1],
-    )
+    alike_law = "λ t. " + alike_parts([len(part.fields) for part in parts])[1:-1]
+    in_fields = Template(IN_FIELDS).substitute(shaped=life, name=name, numbers=paired(whole), inside="Parts" + life, alike=alike_law)
     lent = lent_text(struct, [(f"λ t. t.{field.name}", f"&self.{field.name}") for field in struct.fields])
-    free = paired(each).replace(", ⟦", " && ⟦").replace(", (", " && (")
-    return lent + "".join(texts) + in_fields + encoder_text(struct, own, free, name, life, life, "Fields")
+    return lent + "".join(texts) + in_fields + encoder_text(struct, own, name, life, life, f"StructEncoder<{nested_encoders([part.name for part in parts])}>")
 
 
 def wide_text(struct, own, told):
@@ -120,7 +116,7 @@ def wide_text(struct, own, told):
     used |= set() if struct.lifetime else {"DecodeOwned"}
     used |= {"ConvertFromDecoder"} if any("ConvertFromDecoder<" in text for text in texts) else set()
     stated = ["SurelyOverflows"] if has_arrays(struct, own) else []
-    used |= {"Part", "PartEncoder", "TupleEncoder"} | ({"reserve_as", "reserve_part"} if stated else set())
+    used |= {"Part", "PartEncoder", "PartOf", "PartsEncoder", "TupleEncoder"} | ({"reserve_as", "reserve_part"} if stated else set())
     used |= {"TupleDecoder"} if any("TupleDecoder<" in text for text in texts) else set()
     imports = {*checker.imports, "std::alloc::Global", NEEDED}
     uses = sorted([f"use bitcode::{{{', '.join(sorted(used))}}};", *(f"use {path};" for path in imports)])
@@ -128,19 +124,18 @@ def wide_text(struct, own, told):
         ghost_parts=f"λ t. {paired([f'record {{ {record_of(part.fields, chr(116))} }}' for part in parts])}",
         ghost_made="record { " + "; ".join(f"{quoted(field.name)} = {place}" for field, place in found) + " }", one_to_one="λ t. refl", parts=alias,
     )
-    each_part = ", ".join([f"Fields{number}" + arguments(part) for number, part in enumerate(parts)])
-    named, apart, type_of_decoder = closed_parts(struct, own, name, input, f"({alias}, {each_part})", f"DecoderOfFields<{input}, {alias}>")
+    apart = decoder_text(struct.name, name, input, f"DecoderOfFields<{input}, {alias}>", one)
     body = Template(BODY).substitute(
-        declaration="", alias=f"type {alias} = {paired(whole)};\n\n{named}", shaped=bounds(struct, "Shaped"), name=name, ghost_use="", parts=alias, data=data,
+        declaration="", alias=f"type {alias} = {paired(whole)};\n\n", shaped=bounds(struct, "Shaped"), name=name, ghost_use="", parts=alias, data=data,
         told="".join(f"\n        self.{field.name}.told();" for field in struct.fields) + "\n    ",
         taken=paired(held), moved=moved + " ", built=f"{struct.name} {{ {', '.join(map(initialized, struct.fields))} }}",
         encoded=encoders_text(struct, parts, own), apart=apart, has_decoder=bounds(struct, f"HasDecoder<{input}>", input), input=input,
-        decoder=type_of_decoder,
+        decoder=f"{struct.name}Decoder<{input}>",
         owned="" if struct.lifetime else Template(OWNED).substitute(parameters=bounds(struct, "DecodeOwned"), name=name),
     )
     head = Template(HEAD).substitute(
         about=f"`{struct.name}` corresponds to pairs of parts of its fields. What is below its declaration was written by `scripts/new_type`.",
         operators=closed_head(struct, own)[0],
-        by_hand=f"ghost use Rattle.bitcode.specs.ByHand.{{{', '.join([*([] if one is False else ['ReadsValue']), *stated, 'columns_alike', 'data_as', 'field_alike', 'lists_both', 'pair_alike', 'refl'])}}};\n", uses="\n".join(uses) + "\n",
+        by_hand=f"ghost use Rattle.bitcode.specs.ByHand.{{{', '.join([*([] if one is False else ['ReadsValue']), *stated, 'data_as', 'field_alike', 'lists_both', 'pair_alike', 'refl'])}}};\n", uses="\n".join(uses) + "\n",
     )
     return head + declaration(struct) + "\n" + "\n".join(texts) + body, checker.crates

@@ -29,7 +29,7 @@ pub use Rattle.bitcode_enums.specs.OneOf.{of_one_of_2, of_one_of_3, of_one_of_4}
 pub use Rattle.bitcode_enums.specs.HeldColumns.{columns_in, payloads_in}
 pub use Rattle.bitcode_enums.specs.ByNumberLaws.{columns_and}
 -- That a struct and the nested pairs of its fields have the same listings:
-pub use Rattle.bitcode_tuples.specs.FieldLaws.{columns_alike, field_alike, pair_alike}
+pub use Rattle.bitcode_tuples.specs.FieldLaws.{field_alike, pair_alike}
 -- The listings of some of its fields:
 pub use Rattle.bitcode_structs.specs.FieldListings.{lists_both}
 -- The columns that encoders hold, the data that decoders hold, and what containers are made of:

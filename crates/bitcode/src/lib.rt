@@ -127,7 +127,7 @@ pub mod own {
     pub use bitcode_structs::parts::reserve_part;
     pub use bitcode_tuples::fields::Fields;
     pub use bitcode_tuples::has_field::{HasField, Nth};
-    pub use bitcode_tuples::part_encoder::PartEncoder;
+    pub use bitcode_tuples::part_encoder::{PartEncoder, PartOf, PartsEncoder};
     pub use bitcode_tuples::struct_encoder::{InFields, StructEncoder};
 
     /// The decoder of a struct, which corresponds to the tuple `P` of its fields.
@@ -144,7 +144,8 @@ pub mod own {
 /// elements without columns, and `both`, which combines the results of two reads.
 pub mod coder {
     pub use bitcode_coder::coder::{
-        Buffer, Decoder, EncodeMany, Encoder, HoldsData, NewDecoder, View, both,
+        Buffer, Decoder, EncodeMany, Encoder, HoldsColumns, HoldsData, NewDecoder, View, both,
+        encode_parts,
     };
     pub use bitcode_coder::column_free::ColumnFree;
     pub use bitcode_coder::one::{write_length, write_one};

@@ -1,7 +1,7 @@
 //! `Grade` corresponds to the tuple of its fields. What is below its declaration was written by `scripts/new_type`.
 ghost use Rattle.std.specs.Prelude.{MatchOption, false, true, ◌&&◌, ◌≡◌};
-ghost use Rattle.bitcode.specs.ByHand.{admits, admits-takes, admitted_data, columns_alike, field_alike, nat_le, nat_lt};
-ghost use Rattle.bitcode.specs.ByHand.{natural_back, pair_alike, pair_back, refl};
+ghost use Rattle.bitcode.specs.ByHand.{admits, admits-takes, admitted_data, field_alike, nat_le, nat_lt, natural_back};
+ghost use Rattle.bitcode.specs.ByHand.{pair_alike, pair_back, refl};
 
 use bitcode::own::{DecoderOfChecked, FromChecked, HasField, InFields, Nth, StructEncoder};
 use bitcode::{DecodeOwned, HasDecoder, HasEncoder, Shaped};
@@ -88,14 +88,12 @@ impl HasField<1> for Grade {
     }
 }
 
-type Fields = <(u16, u16) as HasEncoder>::Encoder;
-
-impl InFields<Fields> for Grade {
+impl InFields for Grade {
     type Numbers = (Nth<0>, Nth<1>);
 
-    type Inside = <Grade as HasDecoder<'static>>::Decoder;
+    type Inside = (u16, u16);
 
-    ghost same_columns = { columns_alike refl };
+    ghost same_columns = { refl };
 
     ghost of_fields = { λ d h. h.0 };
 
@@ -103,7 +101,7 @@ impl InFields<Fields> for Grade {
 }
 
 impl HasEncoder for Grade {
-    type Encoder = StructEncoder<Fields>;
+    type Encoder = StructEncoder<<(u16, u16) as HasEncoder>::Encoder>;
 }
 
 impl<'a> HasDecoder<'a> for Grade {

@@ -1,8 +1,8 @@
 //! `Job` corresponds to the tuple of its fields. What is below its declaration was written by `scripts/new_type`.
 ghost use Rattle.std.specs.Prelude.{◌≡◌};
-ghost use Rattle.bitcode.specs.ByHand.{columns_alike, data_as, field_alike, pair_alike, refl};
+ghost use Rattle.bitcode.specs.ByHand.{data_as, field_alike, pair_alike, refl};
 
-use bitcode::own::{DecoderOfFields, HasField, InFields, Nth, StructEncoder};
+use bitcode::own::{DecoderOfFields, HasField, InFields, Nth};
 use bitcode::sealed::{
     Earlier, Expected, OpenError, ReadsVersions, Version, Versioned, open_version,
 };
@@ -100,14 +100,12 @@ impl HasField<4> for Job {
     }
 }
 
-type Fields = <((u64, String), (u8, (u8, Option<u32>))) as HasEncoder>::Encoder;
-
-impl InFields<Fields> for Job {
+impl InFields for Job {
     type Numbers = ((Nth<0>, Nth<1>), (Nth<2>, (Nth<3>, Nth<4>)));
 
-    type Inside = <Job as HasDecoder<'static>>::Decoder;
+    type Inside = Parts;
 
-    ghost same_columns = { columns_alike refl };
+    ghost same_columns = { refl };
 
     ghost of_fields = { λ d h. h };
 
@@ -116,7 +114,7 @@ impl InFields<Fields> for Job {
 }
 
 impl HasEncoder for Job {
-    type Encoder = StructEncoder<Fields>;
+    type Encoder = <Parts as HasEncoder>::Encoder;
 }
 
 impl<'a> HasDecoder<'a> for Job {

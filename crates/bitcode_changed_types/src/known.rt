@@ -1,6 +1,6 @@
 //! `Known` corresponds to the tuple of its fields. What is below its declaration was written by `scripts/new_type`.
 ghost use Rattle.std.specs.Prelude.{[], false, ◌≡◌};
-ghost use Rattle.bitcode.specs.ByHand.{columns_alike, empty_vec, field_alike, pair_alike, refl, skipped_data};
+ghost use Rattle.bitcode.specs.ByHand.{empty_vec, field_alike, pair_alike, refl, skipped_data};
 
 use bitcode::own::{DecoderOfFields, HasField, InFields, Nth, StructEncoder};
 use bitcode::{ConvertFrom, DecodeOwned, Error, HasDecoder, HasEncoder, Shaped};
@@ -61,14 +61,12 @@ impl HasField<1> for Known {
     }
 }
 
-type Fields = <(String, i16) as HasEncoder>::Encoder;
-
-impl InFields<Fields> for Known {
+impl InFields for Known {
     type Numbers = (Nth<0>, Nth<1>);
 
-    type Inside = <Known as HasDecoder<'static>>::Decoder;
+    type Inside = (String, i16);
 
-    ghost same_columns = { columns_alike refl };
+    ghost same_columns = { refl };
 
     ghost of_fields = { λ d h. h };
 
@@ -76,7 +74,7 @@ impl InFields<Fields> for Known {
 }
 
 impl HasEncoder for Known {
-    type Encoder = StructEncoder<Fields>;
+    type Encoder = StructEncoder<<(String, i16) as HasEncoder>::Encoder>;
 }
 
 impl<'a> HasDecoder<'a> for Known {

@@ -1,7 +1,6 @@
 //! `Percent` corresponds to the tuple of its fields. What is below its declaration was written by `scripts/new_type`.
 ghost use Rattle.std.specs.Prelude.{MatchOption, false, true, ◌≡◌};
-ghost use Rattle.bitcode.specs.ByHand.{admits, admits-takes, admitted_data, columns_alike, field_alike, nat_le};
-ghost use Rattle.bitcode.specs.ByHand.{natural_back, refl};
+ghost use Rattle.bitcode.specs.ByHand.{admits, admits-takes, admitted_data, field_alike, nat_le, natural_back, refl};
 
 use bitcode::own::{DecoderOfChecked, FromChecked, HasField, InFields, Nth, StructEncoder};
 use bitcode::{DecodeOwned, HasDecoder, HasEncoder, Key, Shaped};
@@ -71,14 +70,12 @@ impl HasField<0> for Percent {
     }
 }
 
-type Fields = <u8 as HasEncoder>::Encoder;
-
-impl InFields<Fields> for Percent {
+impl InFields for Percent {
     type Numbers = Nth<0>;
 
-    type Inside = <Percent as HasDecoder<'static>>::Decoder;
+    type Inside = u8;
 
-    ghost same_columns = { columns_alike refl };
+    ghost same_columns = { refl };
 
     ghost of_fields = { λ d h. h.0 };
 
@@ -86,7 +83,7 @@ impl InFields<Fields> for Percent {
 }
 
 impl HasEncoder for Percent {
-    type Encoder = StructEncoder<Fields>;
+    type Encoder = StructEncoder<<u8 as HasEncoder>::Encoder>;
 }
 
 impl<'a> HasDecoder<'a> for Percent {

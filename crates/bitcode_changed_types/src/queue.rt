@@ -1,6 +1,6 @@
 //! `Queue` corresponds to the tuple of its fields. What is below its declaration was written by `scripts/new_type`.
 ghost use Rattle.std.specs.Prelude.{◌≡◌};
-ghost use Rattle.bitcode.specs.ByHand.{columns_alike, data_as, field_alike, pair_alike, refl};
+ghost use Rattle.bitcode.specs.ByHand.{data_as, field_alike, pair_alike, refl};
 
 use crate::hurry::Hurry;
 use crate::state::State;
@@ -63,14 +63,12 @@ impl HasField<1> for Queue {
     }
 }
 
-type Fields = <(BTreeMap<u32, State>, Hurry) as HasEncoder>::Encoder;
-
-impl InFields<Fields> for Queue {
+impl InFields for Queue {
     type Numbers = (Nth<0>, Nth<1>);
 
-    type Inside = <Queue as HasDecoder<'static>>::Decoder;
+    type Inside = (BTreeMap<u32, State>, Hurry);
 
-    ghost same_columns = { columns_alike refl };
+    ghost same_columns = { refl };
 
     ghost of_fields = { λ d h. h };
 
@@ -78,7 +76,7 @@ impl InFields<Fields> for Queue {
 }
 
 impl HasEncoder for Queue {
-    type Encoder = StructEncoder<Fields>;
+    type Encoder = StructEncoder<<(BTreeMap<u32, State>, Hurry) as HasEncoder>::Encoder>;
 }
 
 impl<'a> HasDecoder<'a> for Queue {

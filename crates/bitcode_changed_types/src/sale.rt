@@ -1,10 +1,8 @@
 //! `Sale` corresponds to the tuple of its fields. What is below its declaration was written by `scripts/new_type`.
-ghost use Rattle.bitcode.specs.ByHand.{MakesToo, columns_alike, data_as, field_alike, pair_alike, refl};
+ghost use Rattle.bitcode.specs.ByHand.{MakesToo, data_as, field_alike, pair_alike, refl};
 
 use crate::percent::Percent;
-use bitcode::own::{
-    Decoded, DecoderOfPrivate, FromDecoded, HasField, InFields, Nth, StructEncoder,
-};
+use bitcode::own::{Decoded, DecoderOfPrivate, FromDecoded, HasField, InFields, Nth};
 use bitcode::{HasDecoder, HasEncoder, Shaped};
 
 /// What was sold, by whom. Only decoding and this crate make one.
@@ -69,14 +67,12 @@ impl<'a> HasField<2> for Sale<'a> {
     }
 }
 
-type Fields<'a> = <(&'a str, (Vec<Percent>, u64)) as HasEncoder>::Encoder;
-
-impl<'a> InFields<Fields<'a>> for Sale<'a> {
+impl<'a> InFields for Sale<'a> {
     type Numbers = (Nth<0>, (Nth<1>, Nth<2>));
 
-    type Inside = <Sale<'a> as HasDecoder<'a>>::Decoder;
+    type Inside = (&'a str, Vec<Percent>, u64);
 
-    ghost same_columns = { columns_alike refl };
+    ghost same_columns = { refl };
 
     ghost of_fields = { λ d h. h };
 
@@ -84,7 +80,7 @@ impl<'a> InFields<Fields<'a>> for Sale<'a> {
 }
 
 impl<'a> HasEncoder for Sale<'a> {
-    type Encoder = StructEncoder<Fields<'a>>;
+    type Encoder = <(&'a str, Vec<Percent>, u64) as HasEncoder>::Encoder;
 }
 
 impl<'a> HasDecoder<'a> for Sale<'a> {

@@ -1,7 +1,7 @@
 //! `Span` corresponds to the tuple of its fields. What is below its declaration was written by `scripts/new_type`.
 ghost use Rattle.std.specs.Prelude.{MatchOption, false, true, ◌≡◌};
-ghost use Rattle.bitcode.specs.ByHand.{admits, admits-takes, admitted_data, columns_alike, field_alike, nat_le};
-ghost use Rattle.bitcode.specs.ByHand.{natural_back, pair_alike, pair_back, refl};
+ghost use Rattle.bitcode.specs.ByHand.{admits, admits-takes, admitted_data, field_alike, nat_le, natural_back};
+ghost use Rattle.bitcode.specs.ByHand.{pair_alike, pair_back, refl};
 
 use bitcode::own::{DecoderOfChecked, FromChecked, HasField, InFields, Nth, StructEncoder};
 use bitcode::{DecodeOwned, HasDecoder, HasEncoder, Shaped};
@@ -84,14 +84,12 @@ impl HasField<1> for Span {
     }
 }
 
-type Fields = <(u64, u64) as HasEncoder>::Encoder;
-
-impl InFields<Fields> for Span {
+impl InFields for Span {
     type Numbers = (Nth<0>, Nth<1>);
 
-    type Inside = <Span as HasDecoder<'static>>::Decoder;
+    type Inside = (u64, u64);
 
-    ghost same_columns = { columns_alike refl };
+    ghost same_columns = { refl };
 
     ghost of_fields = { λ d h. h.0 };
 
@@ -99,7 +97,7 @@ impl InFields<Fields> for Span {
 }
 
 impl HasEncoder for Span {
-    type Encoder = StructEncoder<Fields>;
+    type Encoder = StructEncoder<<(u64, u64) as HasEncoder>::Encoder>;
 }
 
 impl<'a> HasDecoder<'a> for Span {

@@ -14,7 +14,9 @@ ghost use Rattle.bitcode_coder.specs.Coder.{IsReadingRefusal};
 ghost use Rattle.bitcode_coder.specs.FirstFault.{IsFirstFault};
 ghost use Rattle.bitcode_coder.specs.Strict.{JudgesData};
 
-use crate::coder::{Buffer, Decoder, EncodeMany, Encoder, HoldsData, NewDecoder, View};
+use crate::coder::{
+    Buffer, Decoder, EncodeMany, Encoder, HoldsColumns, HoldsData, NewDecoder, View,
+};
 use crate::column_free::ColumnFree;
 use crate::part::Part;
 use bitcode_columns::pack::pack_bools;
@@ -49,7 +51,7 @@ pub struct BoolEncoder {
     values: FastVec<bool>,
 }
 
-impl Buffer for BoolEncoder {
+impl HoldsColumns for BoolEncoder {
     ghost columns = { λ e. one bools (map truth (fast_items e.values)) };
 
     ghost room = { λ e. fast_room e.values };
@@ -60,6 +62,10 @@ impl Buffer for BoolEncoder {
 
     ghost overflows = { λ e n. ⊥ };
 
+    ghost writes_free = { true };
+}
+
+impl Buffer for BoolEncoder {
     fn new(alloc: Global) -> Self {
         BoolEncoder {
             alloc,
@@ -83,8 +89,6 @@ impl Buffer for BoolEncoder {
 }
 
 impl Encoder<bool> for BoolEncoder {
-    ghost writes_free = { true };
-
     fn encode(&mut self, t: &bool) -> Result<(), Error> {
         self.values.push_unchecked(*t);
         Ok(())
@@ -95,6 +99,12 @@ impl Encoder<bool> for BoolEncoder {
         Ok(true)
     }
 
+    ghost of_shape = { λ e. refl };
+
+    ghost surely = { λ e n never. absurd never };
+}
+
+impl EncodeMany<bool> for BoolEncoder {
     fn is_primitive() -> bool {
         true
     }
@@ -104,12 +114,6 @@ impl Encoder<bool> for BoolEncoder {
         Ok(())
     }
 
-    ghost of_shape = { λ e. refl };
-
-    ghost surely = { λ e n never. absurd never };
-}
-
-impl EncodeMany<bool> for BoolEncoder {
     fn encode_part_of_each<S, W: Part<S, bool>>(
         &mut self,
         items: &[S],
@@ -120,6 +124,10 @@ impl EncodeMany<bool> for BoolEncoder {
         self.values = push_parts(items, which, values);
         Ok(())
     }
+
+    ghost of_shape = { λ e. refl };
+
+    ghost surely = { λ e n never. absurd never };
 }
 
 /// The column that bools are read from.

@@ -25,10 +25,11 @@ use std::alloc::Global;
 /// The maximal number of references that [`Encoder::encode_vectored`] accepts.
 pub const MAX_VECTORED_CHUNK: usize = 64;
 
-/// Columns to which values are added one by one.
+/// The columns of an encoder, in terms of which the contracts of [`Buffer`], [`Encoder`] and [`EncodeMany`] are stated.
 ///
-/// After an error only [`Buffer::clear`] may follow, which empties the columns.
-pub trait Buffer {
+/// It has no functions, since each function of a supertrait makes the checker take longer for each call through the
+/// traits below it.
+pub trait HoldsColumns {
     // the columns so far
     ghost columns: { Self → Columns };
 
@@ -44,6 +45,14 @@ pub trait Buffer {
     // that so many more values make a number of arrays pass is found before memory is asked for
     ghost overflows: { Self → ℕ → Type 0 };
 
+    // writing a value takes no memory, where room for it was reserved
+    ghost writes_free: { Bool };
+}
+
+/// Columns to which values are added one by one.
+///
+/// After an error only [`Buffer::clear`] may follow, which empties the columns.
+pub trait Buffer: HoldsColumns {
     /// Creates empty columns without allocating.
     fn new(alloc: Global) -> Self
         ensures empty { Self.columns result ≡ emptied (Self.columns result) }
@@ -96,10 +105,7 @@ pub trait Buffer {
 }
 
 /// Columns that values of `T` can be added to.
-pub trait Encoder<T: Shaped>: Buffer {
-    // writing a value takes no memory, where room for it was reserved
-    ghost writes_free: { Bool };
-
+pub trait Encoder<T: Shaped>: HoldsColumns {
     /// Adds a value to the columns. The caller must have reserved room for it.
     ///
     /// If an allocation for a part of the value fails, the error is `out of memory`. The error `length overflow` means
@@ -114,7 +120,8 @@ pub trait Encoder<T: Shaped>: Buffer {
         ensures refused { IfErr result
             (λ e. IsWritingRefusal e.reason
             (OverflowsWithListing T.data.lists T.data.shape t.now (Self.columns self.old))) }
-        ensures free { IsTrue writes_free → IfErr result (λ e. e.reason ≢ Reason.OutOfMemory) };
+        ensures free { IsTrue Self.writes_free
+            → IfErr result (λ e. e.reason ≢ Reason.OutOfMemory) };
 
     /// Appends the columns of one value to `out` and keeps none of them, if the encoder can do so without a list for
     /// each column. The columns must be empty. Returns whether it did. If not, `out` is unchanged.
@@ -155,7 +162,7 @@ pub trait Encoder<T: Shaped>: Buffer {
             (λ e. IsWritingRefusal e.reason
             (OverflowsWithEach T.data.lists T.data.shape (map (λ value. value.now) values.now)
             (Self.columns self.old))) }
-        ensures free { IsTrue writes_free → IfErr result (λ e. e.reason ≢ Reason.OutOfMemory) }
+        ensures free { IsTrue Self.writes_free → IfErr result (λ e. e.reason ≢ Reason.OutOfMemory) }
     {
         told_parts(values, &Behind);
         for value in values {
@@ -164,12 +171,24 @@ pub trait Encoder<T: Shaped>: Buffer {
         Ok(())
     }
 
+    // the columns are those of the type's shape
+    ghost of_shape: { (e : Self) → emptied (Self.columns e) ≡ written_columns T.data.shape [] };
+
+    ghost surely: { (e : Self) (n : ℕ) → Self.surely_overflows e n
+        → SurelyOverflows T.data.shape (Self.columns e) n };
+}
+
+/// Columns that many values of `T` can be added to at once, for the encoders of lists and of what is inside them.
+///
+/// It is no subtrait of [`Encoder`]: the checker would pass both of an element for both of its list, and so twice as
+/// much for each list inside a list.
+pub trait EncodeMany<T: Shaped>: HoldsColumns {
     /// Whether the values are written unchanged, as bools, integers and the bytes of texts are.
-    /// [`Encoder::encode_slice`] then writes many of them at once.
+    /// [`EncodeMany::encode_slice`] then writes many of them at once.
     ///
     /// Such a value does not allocate.
     fn is_primitive() -> bool
-        ensures { IsTrue result → IsTrue writes_free }
+        ensures { IsTrue result → IsTrue Self.writes_free }
     {
         false
     }
@@ -188,12 +207,15 @@ pub trait Encoder<T: Shaped>: Buffer {
         ensures refused { IfErr result
             (λ e. IsWritingRefusal e.reason
             (OverflowsWithEach T.data.lists T.data.shape items.now (Self.columns self.old))) }
-        ensures free { IsTrue writes_free → IfErr result (λ e. e.reason ≢ Reason.OutOfMemory) }
+        ensures free { IsTrue Self.writes_free → IfErr result (λ e. e.reason ≢ Reason.OutOfMemory) }
         ensures none { length items.now ≡ 0 → IsOk result }
     {
         told_each(items);
-        for item in items {
-            self.encode(item)?;
+        let mut rest = items;
+        while !rest.is_empty() {
+            let (front, behind) = rest.split_at(rest.len().min(MAX_VECTORED_CHUNK));
+            self.encode_part_of_each(front, &Itself, &front[0])?;
+            rest = behind;
         }
         Ok(())
     }
@@ -215,29 +237,16 @@ pub trait Encoder<T: Shaped>: Buffer {
         Ok(false)
     }
 
-    // the columns are those of the type's shape
-    ghost of_shape: { (e : Self) → emptied (Self.columns e) ≡ written_columns T.data.shape [] };
-
-    ghost surely: { (e : Self) (n : ℕ) → Self.surely_overflows e n
-        → SurelyOverflows T.data.shape (Self.columns e) n };
-}
-
-/// Encoders that add a part of each of many items.
-///
-/// It is a trait of its own, since a function with a bounded type parameter makes the checker repeat its work for each
-/// other function of its trait.
-pub trait EncodeMany<T: Shaped>: Encoder<T> {
     /// Adds a part of each of 1 to [`MAX_VECTORED_CHUNK`] items to the columns, as calls of [`Encoder::encode`] would.
     /// The caller must have reserved room for them.
     ///
-    /// Errors: those of `encode`. Some of the first parts may have been added by then. Encoders that write many values
-    /// at once override it. `_first` is the first part or any other value of `T`. It is there only because the
-    /// toolchain needs an argument of the type to know its layout.
+    /// Errors: those of `encode`. Some of the first parts may have been added by then. `first` is the first part or any
+    /// other value of `T`. It is there only because the toolchain needs an argument of the type to know its layout.
     fn encode_part_of_each<S, W: Part<S, T>>(
         &mut self,
         items: &[S],
         which: &W,
-        _first: &T,
+        first: &T,
     ) -> Result<(), Error>
         requires chunk { (0 < length items.now) × (length items.now ≤ MAX_VECTORED_CHUNK) }
         requires room { length items.now ≤ Self.room self.old }
@@ -251,42 +260,40 @@ pub trait EncodeMany<T: Shaped>: Encoder<T> {
             (λ e. IsWritingRefusal e.reason
             (OverflowsWithEach T.data.lists T.data.shape (map (W.of which.now) items.now)
             (Self.columns self.old))) }
-        ensures free { IsTrue Self.writes_free → IfErr result (λ e. e.reason ≢ Reason.OutOfMemory) }
-    {
-        told_parts(items, which);
-        for item in items {
-            self.encode(which.part(item))?;
-        }
-        Ok(())
-    }
+        ensures free { IsTrue Self.writes_free
+            → IfErr result (λ e. e.reason ≢ Reason.OutOfMemory) };
+
+    // the columns are those of the type's shape
+    ghost of_shape: { (e : Self) → emptied (Self.columns e) ≡ written_columns T.data.shape [] };
+
+    ghost surely: { (e : Self) (n : ℕ) → Self.surely_overflows e n
+        → SurelyOverflows T.data.shape (Self.columns e) n };
 }
 
-/// Adds the values of a slice to the columns, up to [`MAX_VECTORED_CHUNK`] at a time. The caller must have reserved
-/// room for them.
+/// Adds a part of each of some items to the columns, one by one. The caller must have reserved room for them. It is the
+/// body of [`EncodeMany::encode_part_of_each`] for encoders that cannot write many values at once.
 ///
-/// Errors: those of [`Encoder::encode`]. Some of the first values may have been added by then.
-pub fn encode_in_chunks<T: Shaped, E: EncodeMany<T>>(
+/// Errors: those of [`Encoder::encode`]. Some of the first parts may have been added by then.
+pub fn encode_parts<S, T: Shaped, W: Part<S, T>, E: Encoder<T>>(
     encoder: &mut E,
-    items: &[T],
+    items: &[S],
+    which: &W,
 ) -> Result<(), Error>
     requires { length items.now ≤ E.room encoder.old }
     ensures joined { OnOk result
-        (JoinsEach T.data.lists T.data.shape items.now (E.columns encoder.old)
-        (E.columns encoder.new)) }
+        (JoinsEach T.data.lists T.data.shape (map (W.of which.now) items.now)
+        (E.columns encoder.old) (E.columns encoder.new)) }
     ensures room { OnOk result (E.room encoder.old ≤ E.room encoder.new + length items.now) }
     ensures form { emptied (E.columns encoder.new) ≡ emptied (E.columns encoder.old) }
     ensures refused { IfErr result
         (λ e. IsWritingRefusal e.reason
-        (OverflowsWithEach T.data.lists T.data.shape items.now (E.columns encoder.old))) }
+        (OverflowsWithEach T.data.lists T.data.shape (map (W.of which.now) items.now)
+        (E.columns encoder.old))) }
     ensures free { IsTrue E.writes_free → IfErr result (λ e. e.reason ≢ Reason.OutOfMemory) }
-    ensures none { length items.now ≡ 0 → IsOk result }
 {
-    told_each(items);
-    let mut rest = items;
-    while !rest.is_empty() {
-        let (front, behind) = rest.split_at(rest.len().min(MAX_VECTORED_CHUNK));
-        encoder.encode_part_of_each(front, &Itself, &front[0])?;
-        rest = behind;
+    told_parts(items, which);
+    for item in items {
+        encoder.encode(which.part(item))?;
     }
     Ok(())
 }

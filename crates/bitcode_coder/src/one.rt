@@ -21,7 +21,7 @@ use std::alloc::Global;
 /// let mut column = BoolEncoder::new(alloc);
 /// write_one(&mut column, &true, &mut bytes)?; // [1]
 /// ```
-pub fn write_one<T: Shaped, E: Encoder<T>>(
+pub fn write_one<T: Shaped, E: Buffer + Encoder<T>>(
     encoder: &mut E,
     t: &T,
     out: &mut Vec<u8>,

@@ -6,8 +6,11 @@ ghost use Rattle.bitcode_coder.specs.Columns.{no_columns};
 ghost use Rattle.bitcode_coder.specs.Coder.{endless_room};
 
 use crate::derive::{DecodeOwned, HasDecoder, HasEncoder};
-use bitcode_coder::coder::{Buffer, Decoder, EncodeMany, Encoder, HoldsData, NewDecoder, View};
+use bitcode_coder::coder::{
+    Buffer, Decoder, EncodeMany, Encoder, HoldsColumns, HoldsData, NewDecoder, View, encode_parts,
+};
 use bitcode_coder::column_free::ColumnFree;
+use bitcode_coder::part::Part;
 use bitcode_memory::error::{Error, Reason};
 use bitcode_memory::refuse::err;
 use bitcode_shapes::no_variants::{Absent, NoVariants};
@@ -22,7 +25,7 @@ use std::alloc::Global;
 #[derive(Drop)]
 pub struct AbsentEncoder {}
 
-impl Buffer for AbsentEncoder {
+impl HoldsColumns for AbsentEncoder {
     ghost columns = { λ e. no_columns };
 
     ghost room = { λ e. endless_room };
@@ -33,6 +36,10 @@ impl Buffer for AbsentEncoder {
 
     ghost overflows = { λ e n. ⊥ };
 
+    ghost writes_free = { true };
+}
+
+impl Buffer for AbsentEncoder {
     fn new(_alloc: Global) -> Self {
         AbsentEncoder {}
     }
@@ -49,8 +56,6 @@ impl Buffer for AbsentEncoder {
 }
 
 impl<T: NoVariants> Encoder<Absent<T>> for AbsentEncoder {
-    ghost writes_free = { true };
-
     fn encode(&mut self, _t: &Absent<T>) -> Result<(), Error> {
         Ok(())
     }
@@ -60,7 +65,20 @@ impl<T: NoVariants> Encoder<Absent<T>> for AbsentEncoder {
     ghost surely = { λ e n h. absurd h };
 }
 
-impl<T: NoVariants> EncodeMany<Absent<T>> for AbsentEncoder {}
+impl<T: NoVariants> EncodeMany<Absent<T>> for AbsentEncoder {
+    fn encode_part_of_each<S, W: Part<S, Absent<T>>>(
+        &mut self,
+        items: &[S],
+        which: &W,
+        _first: &Absent<T>,
+    ) -> Result<(), Error> {
+        encode_parts(self, items, which)
+    }
+
+    ghost of_shape = { λ e. refl };
+
+    ghost surely = { λ e n h. absurd h };
+}
 
 /// The decoder of a type without values. Reading one or more values is the error `invalid enum variant`.
 ///

@@ -31,7 +31,7 @@ pub struct Buffer<T: HasEncoder> {
 
 impl<T: HasEncoder + Shaped> Buffer<T>
 where
-    T::Encoder: Encoder<T> + Drop,
+    T::Encoder: EncoderBuffer + Encoder<T> + Drop,
 {
     /// Creates an empty buffer without allocating.
     pub fn new(alloc: Global) -> Self

@@ -17,7 +17,7 @@ use bitcode_shapes::shaped::Shaped;
 ///     reserve_as::<Player, _>(&mut self.fields, n)
 /// }
 /// ```
-pub fn reserve_as<T: Shaped, E: Encoder<T>>(encoder: &mut E, n: usize) -> Result<(), Error>
+pub fn reserve_as<T: Shaped, E: Buffer + Encoder<T>>(encoder: &mut E, n: usize) -> Result<(), Error>
     ensures columns { E.columns encoder.new ≡ E.columns encoder.old }
     ensures ok { OnOk result (n ≤ E.room encoder.new) }
     ensures grows { E.room encoder.old ≤ E.room encoder.new }

@@ -1,5 +1,5 @@
 //! The types with encoders and decoders.
-use bitcode_coder::coder::{Buffer, Decoder, EncodeMany, NewDecoder, View};
+use bitcode_coder::coder::{Buffer, Decoder, EncodeMany, Encoder, NewDecoder, View};
 use bitcode_shapes::shaped::Shaped;
 
 /// Names the encoder of a type.
@@ -9,7 +9,7 @@ use bitcode_shapes::shaped::Shaped;
 ///
 /// ```rust,from:crates/bitcode_own_types/src/meters.rt
 /// impl HasEncoder for Meters {
-///     type Encoder = StructEncoder<Fields>;
+///     type Encoder = StructEncoder<<u32 as HasEncoder>::Encoder>;
 /// }
 /// ```
 pub trait HasEncoder {
@@ -20,11 +20,11 @@ pub trait HasEncoder {
 /// A type that can be encoded: every lawful type whose encoder accepts its values.
 ///
 /// It has no impls of its own. The calls that encode whole values drop the encoder.
-pub trait Encode: HasEncoder<Encoder: EncodeMany<Self> + Drop> + Shaped {}
+pub trait Encode: HasEncoder<Encoder: Buffer + Encoder<Self> + EncodeMany<Self> + Drop> + Shaped {}
 
 impl<T: HasEncoder + Shaped> Encode for T
 where
-    T::Encoder: EncodeMany<T> + Drop,
+    T::Encoder: Buffer + Encoder<T> + EncodeMany<T> + Drop,
 {}
 
 /// Names the decoder of a type, for an input that outlives `'a`.

@@ -2,8 +2,11 @@
 ghost use Rattle.std.specs.Prelude.{refl, IfSome};
 ghost use Rattle.bitcode_coder.specs.Coder.{ReadsValue};
 
-use bitcode_coder::coder::{Buffer, Decoder, EncodeMany, Encoder, HoldsData, NewDecoder, View};
+use bitcode_coder::coder::{
+    Buffer, Decoder, EncodeMany, Encoder, HoldsColumns, HoldsData, NewDecoder, View, encode_parts,
+};
 use bitcode_coder::column_free::ColumnFree;
+use bitcode_coder::part::Part;
 use bitcode_ints::checked::CheckedIntDecoder;
 use bitcode_ints::unsigned_coders::{U32Encoder, U64Decoder, U64Encoder};
 use bitcode_memory::error::Error;
@@ -33,17 +36,21 @@ pub struct DurationEncoder {
     columns: Columns,
 }
 
-impl Buffer for DurationEncoder {
-    ghost columns = { λ e. ⟦<Columns as Buffer>⟧.columns e.columns };
+impl HoldsColumns for DurationEncoder {
+    ghost columns = { λ e. ⟦<Columns as HoldsColumns>⟧.columns e.columns };
 
-    ghost room = { λ e. ⟦<Columns as Buffer>⟧.room e.columns };
+    ghost room = { λ e. ⟦<Columns as HoldsColumns>⟧.room e.columns };
 
-    ghost capacity = { λ e. ⟦<Columns as Buffer>⟧.capacity e.columns };
+    ghost capacity = { λ e. ⟦<Columns as HoldsColumns>⟧.capacity e.columns };
 
     ghost surely_overflows = { λ e n. ⊥ };
 
-    ghost overflows = { λ e n. ⟦<Columns as Buffer>⟧.overflows e.columns n };
+    ghost overflows = { λ e n. ⟦<Columns as HoldsColumns>⟧.overflows e.columns n };
 
+    ghost writes_free = { ⟦<Columns as HoldsColumns>⟧.writes_free };
+}
+
+impl Buffer for DurationEncoder {
     fn new(alloc: Global) -> Self {
         DurationEncoder {
             columns: Buffer::new(alloc),
@@ -64,8 +71,6 @@ impl Buffer for DurationEncoder {
 }
 
 impl Encoder<Duration> for DurationEncoder {
-    ghost writes_free = { ⟦<Columns as Encoder<Duration>>⟧.writes_free };
-
     fn encode(&mut self, t: &Duration) -> Result<(), Error> {
         self.columns.encode(t)
     }
@@ -75,7 +80,20 @@ impl Encoder<Duration> for DurationEncoder {
     ghost surely = { λ e n never. absurd never };
 }
 
-impl EncodeMany<Duration> for DurationEncoder {}
+impl EncodeMany<Duration> for DurationEncoder {
+    fn encode_part_of_each<S, W: Part<S, Duration>>(
+        &mut self,
+        items: &[S],
+        which: &W,
+        _first: &Duration,
+    ) -> Result<(), Error> {
+        encode_parts(self, items, which)
+    }
+
+    ghost of_shape = { λ e. refl };
+
+    ghost surely = { λ e n never. absurd never };
+}
 
 type Data<'a> = ConvertFromDecoder<
     DurationDecode,

@@ -10,9 +10,12 @@ ghost use Rattle.bitcode_coder.specs.Columns.{lengths, one, two};
 ghost use Rattle.bitcode_coder.specs.Length.{written_lengths, length_room, length_capacity, lengths_sum};
 ghost use Rattle.bitcode_coder.specs.Spelling.{natural};
 
-use bitcode_coder::coder::{Buffer, Decoder, EncodeMany, Encoder, HoldsData, NewDecoder, View};
+use bitcode_coder::coder::{
+    Buffer, Decoder, EncodeMany, Encoder, HoldsColumns, HoldsData, NewDecoder, View, encode_parts,
+};
 use bitcode_coder::column_free::ColumnFree;
 use bitcode_coder::length::LengthEncoder;
+use bitcode_coder::part::Part;
 use bitcode_memory::error::{Error, Reason};
 use bitcode_parts::lists::sequence::FromElements;
 use bitcode_parts::lists::vec::VecDecoder;
@@ -42,7 +45,7 @@ pub struct MapEncoder<K, V> {
     values: V,
 }
 
-impl<K: Buffer, V: Buffer> Buffer for MapEncoder<K, V> {
+impl<K: HoldsColumns, V: HoldsColumns> HoldsColumns for MapEncoder<K, V> {
     ghost columns = { λ e. two (one (lengths None) (map natural (written_lengths e.lengths)))
         (two (K.columns e.keys) (V.columns e.values)) };
 
@@ -54,6 +57,10 @@ impl<K: Buffer, V: Buffer> Buffer for MapEncoder<K, V> {
 
     ghost overflows = { λ e n. ⊥ };
 
+    ghost writes_free = { false };
+}
+
+impl<K: Buffer, V: Buffer> Buffer for MapEncoder<K, V> {
     fn new(alloc: Global) -> Self {
         MapEncoder {
             lengths: LengthEncoder::new(alloc),
@@ -79,9 +86,8 @@ impl<K: Buffer, V: Buffer> Buffer for MapEncoder<K, V> {
     }
 }
 
-impl<M: Mapping, K: EncodeMany<M::Key>, V: EncodeMany<M::Value>> Encoder<M> for MapEncoder<K, V> {
-    ghost writes_free = { false };
-
+impl<M: Mapping, K: Buffer + EncodeMany<M::Key>, V: Buffer + EncodeMany<M::Value>> Encoder<M>
+    for MapEncoder<K, V> {
     fn encode(&mut self, t: &M) -> Result<(), Error> {
         t.told();
         let count = t.entry_count();
@@ -98,8 +104,23 @@ impl<M: Mapping, K: EncodeMany<M::Key>, V: EncodeMany<M::Value>> Encoder<M> for 
     ghost surely = { λ e n never. absurd never };
 }
 
-impl<M: Mapping, K: EncodeMany<M::Key>, V: EncodeMany<M::Value>> EncodeMany<M>
-    for MapEncoder<K, V> {}
+impl<M: Mapping, K: Buffer + EncodeMany<M::Key>, V: Buffer + EncodeMany<M::Value>> EncodeMany<M>
+    for MapEncoder<K, V> {
+    fn encode_part_of_each<S, W: Part<S, M>>(
+        &mut self,
+        items: &[S],
+        which: &W,
+        _first: &M,
+    ) -> Result<(), Error> {
+        encode_parts(self, items, which)
+    }
+
+    ghost of_shape = { λ e. ap₂ (λ keys values. two (one (lengths None) []) (two keys values))
+        (K.of_shape e.keys) (V.of_shape e.values) ∙ ap (λ (shape : Shape). written_columns shape [])
+        (sym M.entries_shape) };
+
+    ghost surely = { λ e n never. absurd never };
+}
 
 /// The decoder of maps. It reads the lengths of all maps, and then all keys and all values.
 ///

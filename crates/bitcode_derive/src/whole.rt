@@ -42,7 +42,7 @@ pub fn encode_into<T: HasEncoder + Shaped>(
     out: &mut Vec<u8>,
 ) -> Result<(), Error>
 where
-    T::Encoder: Encoder<T> + Drop,
+    T::Encoder: Buffer + Encoder<T> + Drop,
     ensures written { OnOk result
         (IsWrittenBehind T.data.lists T.data.shape t.now out.old.items out.new.items) }
     ensures begins { BeginsWith out.old.items out.new.items }
@@ -66,7 +66,7 @@ where
 /// ```
 pub fn encode<T: HasEncoder + Shaped>(alloc: Global, t: &T) -> Result<Vec<u8>, Error>
 where
-    T::Encoder: Encoder<T> + Drop,
+    T::Encoder: Buffer + Encoder<T> + Drop,
     ensures written { IfOk result
         (λ bytes. IsEncodingOf T.data.lists T.data.shape t.now bytes.items) }
     ensures refused { IfErr result

@@ -11,7 +11,7 @@ use crate::enums::{Enum, EnumOf};
 use crate::number::At;
 use crate::payload_columns::PayloadColumns;
 use crate::writes::WritesVariants;
-use bitcode_coder::coder::{Buffer, EncodeMany, Encoder, MAX_VECTORED_CHUNK};
+use bitcode_coder::coder::{Buffer, EncodeMany, Encoder, HoldsColumns, MAX_VECTORED_CHUNK};
 use bitcode_coder::part::{Part, told_parts};
 use bitcode_memory::error::Error;
 use bitcode_parts::choices::gathered::{SaysVariant, gather_variants};
@@ -34,7 +34,7 @@ pub struct EnumEncoder<const N: usize, C> {
     payloads: PayloadColumns<C>,
 }
 
-impl<const N: usize, C: VariantColumns> Buffer for EnumEncoder<N, C> {
+impl<const N: usize, C: VariantColumns> HoldsColumns for EnumEncoder<N, C> {
     ghost columns = { λ e. variant_columns N (written_variants e.variants)
         (all_columns (C.columns.lists e.payloads.columns)) };
 
@@ -46,6 +46,10 @@ impl<const N: usize, C: VariantColumns> Buffer for EnumEncoder<N, C> {
 
     ghost overflows = { λ e n. ⊥ };
 
+    ghost writes_free = { false };
+}
+
+impl<const N: usize, C: VariantColumns> Buffer for EnumEncoder<N, C> {
     fn new(alloc: Global) -> Self {
         EnumEncoder {
             variants: VariantEncoder::new(alloc),
@@ -83,15 +87,9 @@ impl<const N: usize, T: EnumOf<N>> SaysVariant<T> for EnumVariant<N> {
 
 impl<const N: usize, C: VariantColumns, T: EnumOf<N> + WritesVariants<At<0>, At<N>, C>> Encoder<T>
     for EnumEncoder<N, C> {
-    ghost writes_free = { false };
-
     fn encode(&mut self, t: &T) -> Result<(), Error> {
         self.variants.encode(Enum::variant(t));
         self.payloads.encode_payload::<N, T>(t)
-    }
-
-    fn is_primitive() -> bool {
-        false
     }
 
     ghost of_shape = { λ e. enum_of_shape T.each.variants.shapes T.data.shape N
@@ -106,6 +104,10 @@ impl<const N: usize, C: VariantColumns, T: EnumOf<N> + WritesVariants<At<0>, At<
 impl<const N: usize, C: VariantColumns, T: EnumOf<N> + WritesVariants<At<0>, At<N>, C>> EncodeMany<
     T,
 > for EnumEncoder<N, C> {
+    fn is_primitive() -> bool {
+        false
+    }
+
     fn encode_part_of_each<I, W: Part<I, T>>(
         &mut self,
         items: &[I],
@@ -121,4 +123,12 @@ impl<const N: usize, C: VariantColumns, T: EnumOf<N> + WritesVariants<At<0>, At<
         }
         Ok(())
     }
+
+    ghost of_shape = { λ e. enum_of_shape T.each.variants.shapes T.data.shape N
+        (all_columns (C.columns.lists e.payloads.columns)) T.counted.0 T.counted.1
+        (each_has_payloads T.each.variants.shapes (C.columns.lists e.payloads.columns)
+        (whole_form T.each.variants.shapes N (C.columns.lists e.payloads.columns) T.counted.0
+        (T.are_columns e.payloads.columns)) 0) };
+
+    ghost surely = { λ e n h. absurd h };
 }

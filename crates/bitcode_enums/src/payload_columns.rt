@@ -1,5 +1,5 @@
 //! The columns of the payloads of all variants of an enum, one variant after another.
-ghost use Rattle.std.specs.Prelude.{◌≡◌, OnOk, IfErr};
+ghost use Rattle.std.specs.Prelude.{◌≡◌, false, OnOk, IfErr};
 ghost use Rattle.bitcode_coder.specs.Columns.{emptied};
 ghost use Rattle.bitcode_coder.specs.Coder.{endless_room, IsWritingRefusal};
 ghost use Rattle.bitcode_enums.specs.ByNumber.{all_columns};
@@ -9,7 +9,7 @@ use crate::columns::VariantColumns;
 use crate::enums::{Enum, EnumOf};
 use crate::number::At;
 use crate::writes::WritesVariants;
-use bitcode_coder::coder::Buffer;
+use bitcode_coder::coder::{Buffer, HoldsColumns};
 use bitcode_memory::error::Error;
 use std::alloc::Global;
 
@@ -25,7 +25,7 @@ pub struct PayloadColumns<C> {
     columns: C,
 }
 
-impl<C: VariantColumns> Buffer for PayloadColumns<C> {
+impl<C: VariantColumns> HoldsColumns for PayloadColumns<C> {
     ghost columns = { λ e. all_columns (C.columns.lists e.columns) };
 
     ghost room = { λ e. endless_room };
@@ -36,6 +36,10 @@ impl<C: VariantColumns> Buffer for PayloadColumns<C> {
 
     ghost overflows = { λ e n. ⊥ };
 
+    ghost writes_free = { false };
+}
+
+impl<C: VariantColumns> Buffer for PayloadColumns<C> {
     fn new(alloc: Global) -> Self {
         PayloadColumns {
             columns: C::new(alloc),

@@ -73,19 +73,19 @@ pub trait WritesVariants<First: VariantNumber, End: VariantNumber, C: VariantCol
 /// encode_payload_fields(&mut columns, &(&7, &9))?;
 /// assert_eq!(rt; columns.collect(alloc)?.as_slice(), [7, 9, 0].as_slice());
 /// ```
-pub fn encode_payload_fields<F: Fields, E: Encoder<F::Whole> + FieldsEncoder<F>>(
+pub fn encode_payload_fields<F: Fields, E: Buffer + Encoder<F::Whole> + FieldsEncoder<F>>(
     columns: &mut E,
     fields: &F,
 ) -> Result<(), Error>
     ensures joined { OnOk result
         (JoinsListing F.Whole.data.lists F.Whole.data.shape (F.whole fields.now)
-        (E.Buffer.columns columns.old) (E.Buffer.columns columns.new)) }
-    ensures form { emptied (E.Buffer.columns columns.new) ≡ emptied
-        (E.Buffer.columns columns.old) }
+        (E.columns columns.old) (E.columns columns.new)) }
+    ensures form { emptied (E.columns columns.new) ≡ emptied
+        (E.columns columns.old) }
     ensures refused { IfErr result
         (λ e. IsWritingRefusal e.reason
         (OverflowsWithListing F.Whole.data.lists F.Whole.data.shape (F.whole fields.now)
-        (E.Buffer.columns columns.old))) }
+        (E.columns columns.old))) }
 {
     fields.told();
     columns.reserve(1)?;

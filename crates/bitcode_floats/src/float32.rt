@@ -14,7 +14,9 @@ ghost use Rattle.bitcode_coder.specs.FirstFault.{IsFirstFault};
 ghost use Rattle.bitcode_coder.specs.Strict.{JudgesData};
 ghost use Rattle.bitcode_floats.specs.Floats.{data_of_floats, data_of_bits};
 
-use bitcode_coder::coder::{Buffer, Decoder, EncodeMany, Encoder, HoldsData, NewDecoder, View};
+use bitcode_coder::coder::{
+    Buffer, Decoder, EncodeMany, Encoder, HoldsColumns, HoldsData, NewDecoder, View,
+};
 use bitcode_coder::column_free::ColumnFree;
 use bitcode_coder::part::Part;
 use bitcode_float_columns::split::{SplitBits, pack_f32s, read_f32s};
@@ -52,7 +54,7 @@ pub struct F32Encoder {
     values: FastVec<f32>,
 }
 
-impl Buffer for F32Encoder {
+impl HoldsColumns for F32Encoder {
     ghost columns = { λ e. one (floats binary32) (data_of_floats binary32 (fast_items e.values)) };
 
     ghost room = { λ e. fast_room e.values };
@@ -63,6 +65,10 @@ impl Buffer for F32Encoder {
 
     ghost overflows = { λ e n. ⊥ };
 
+    ghost writes_free = { true };
+}
+
+impl Buffer for F32Encoder {
     fn new(alloc: Global) -> Self {
         F32Encoder {
             alloc,
@@ -86,8 +92,6 @@ impl Buffer for F32Encoder {
 }
 
 impl Encoder<f32> for F32Encoder {
-    ghost writes_free = { true };
-
     fn encode(&mut self, t: &f32) -> Result<(), Error> {
         self.values.push_unchecked(*t);
         Ok(())
@@ -98,6 +102,12 @@ impl Encoder<f32> for F32Encoder {
         Ok(true)
     }
 
+    ghost of_shape = { λ e. refl };
+
+    ghost surely = { λ e n never. absurd never };
+}
+
+impl EncodeMany<f32> for F32Encoder {
     fn is_primitive() -> bool {
         true
     }
@@ -112,12 +122,6 @@ impl Encoder<f32> for F32Encoder {
         Ok(true)
     }
 
-    ghost of_shape = { λ e. refl };
-
-    ghost surely = { λ e n never. absurd never };
-}
-
-impl EncodeMany<f32> for F32Encoder {
     fn encode_part_of_each<S, W: Part<S, f32>>(
         &mut self,
         items: &[S],
@@ -128,6 +132,10 @@ impl EncodeMany<f32> for F32Encoder {
         self.values = push_parts(items, which, values);
         Ok(())
     }
+
+    ghost of_shape = { λ e. refl };
+
+    ghost surely = { λ e n never. absurd never };
 }
 
 /// The column that `f32`s are read from. It borrows the input.

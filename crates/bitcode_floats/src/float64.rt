@@ -16,7 +16,7 @@ ghost use Rattle.bitcode_floats.specs.Floats.{data_of_bits, long_bits, residue_o
 
 use crate::direct::{keep_whole_width, write_whole};
 use bitcode_coder::coder::{
-    Buffer, Decoder, EncodeMany, Encoder, HoldsData, NewDecoder, View, both,
+    Buffer, Decoder, EncodeMany, Encoder, HoldsColumns, HoldsData, NewDecoder, View, both,
 };
 use bitcode_coder::column_free::ColumnFree;
 use bitcode_coder::part::{Itself, Part};
@@ -88,7 +88,7 @@ pub struct F64Encoder {
     bits: FastVec<u64>,
 }
 
-impl Buffer for F64Encoder {
+impl HoldsColumns for F64Encoder {
     ghost columns = { λ e. one (floats binary64) (map natural (fast_items e.bits)) };
 
     ghost room = { λ e. fast_room e.bits };
@@ -99,6 +99,10 @@ impl Buffer for F64Encoder {
 
     ghost overflows = { λ e n. ⊥ };
 
+    ghost writes_free = { true };
+}
+
+impl Buffer for F64Encoder {
     fn new(alloc: Global) -> Self {
         F64Encoder {
             alloc,
@@ -122,8 +126,6 @@ impl Buffer for F64Encoder {
 }
 
 impl Encoder<f64> for F64Encoder {
-    ghost writes_free = { true };
-
     fn encode(&mut self, t: &f64) -> Result<(), Error> {
         self.bits.push_unchecked(f64_to_bits_with_nan(*t));
         Ok(())
@@ -134,6 +136,12 @@ impl Encoder<f64> for F64Encoder {
         Ok(true)
     }
 
+    ghost of_shape = { λ e. refl };
+
+    ghost surely = { λ e n never. absurd never };
+}
+
+impl EncodeMany<f64> for F64Encoder {
     fn is_primitive() -> bool {
         true
     }
@@ -152,12 +160,6 @@ impl Encoder<f64> for F64Encoder {
         Ok(true)
     }
 
-    ghost of_shape = { λ e. refl };
-
-    ghost surely = { λ e n never. absurd never };
-}
-
-impl EncodeMany<f64> for F64Encoder {
     fn encode_part_of_each<S, W: Part<S, f64>>(
         &mut self,
         items: &[S],
@@ -168,6 +170,10 @@ impl EncodeMany<f64> for F64Encoder {
         self.bits = push_parts(items, which, bits);
         Ok(())
     }
+
+    ghost of_shape = { λ e. refl };
+
+    ghost surely = { λ e n never. absurd never };
 }
 
 // The bits whose bytes these are, the lowest first.

@@ -18,7 +18,9 @@ ghost use Rattle.bitcode_coder.specs.ColumnFree.{free_count, saturated};
 ghost use Rattle.bitcode_coder.specs.Strict.{JudgesData};
 ghost use Rattle.bitcode_ints.specs.Int.{int_data, bytes_data, PushesInts, WritesInts, ReadsInt};
 
-use bitcode_coder::coder::{Buffer, Decoder, EncodeMany, Encoder, HoldsData, NewDecoder, View};
+use bitcode_coder::coder::{
+    Buffer, Decoder, EncodeMany, Encoder, HoldsColumns, HoldsData, NewDecoder, View,
+};
 use bitcode_coder::column_free::ColumnFree;
 use bitcode_coder::part::Part;
 use bitcode_int_columns::column_int::ColumnInt;
@@ -162,7 +164,7 @@ pub struct IntEncoder<T: ColumnInt> {
     values: FastVec<T>,
 }
 
-impl<T: ColumnInt> Buffer for IntEncoder<T> {
+impl<T: ColumnInt> HoldsColumns for IntEncoder<T> {
     ghost columns = { λ e. one (ints T.width T.signed) (int_data T.number (fast_items e.values)) };
 
     ghost room = { λ e. fast_room e.values };
@@ -173,6 +175,10 @@ impl<T: ColumnInt> Buffer for IntEncoder<T> {
 
     ghost overflows = { λ e n. ⊥ };
 
+    ghost writes_free = { true };
+}
+
+impl<T: ColumnInt> Buffer for IntEncoder<T> {
     fn new(alloc: Global) -> Self {
         IntEncoder {
             alloc,
@@ -214,8 +220,6 @@ impl<T: ColumnInt> IntEncoder<T> {
 }
 
 impl<I: ColumnInt, P: AsInt<I>> Encoder<P> for IntEncoder<I> {
-    ghost writes_free = { true };
-
     fn encode(&mut self, t: &P) -> Result<(), Error> {
         self.values.push_unchecked(t.to_int());
         Ok(())
@@ -226,6 +230,12 @@ impl<I: ColumnInt, P: AsInt<I>> Encoder<P> for IntEncoder<I> {
         Ok(true)
     }
 
+    ghost of_shape = { λ e. sym (P.as_int_columns []) };
+
+    ghost surely = { λ e n never. absurd never };
+}
+
+impl<I: ColumnInt, P: AsInt<I>> EncodeMany<P> for IntEncoder<I> {
     fn is_primitive() -> bool {
         true
     }
@@ -239,12 +249,6 @@ impl<I: ColumnInt, P: AsInt<I>> Encoder<P> for IntEncoder<I> {
         P::write_ints(self.alloc, items, out)
     }
 
-    ghost of_shape = { λ e. sym (P.as_int_columns []) };
-
-    ghost surely = { λ e n never. absurd never };
-}
-
-impl<I: ColumnInt, P: AsInt<I>> EncodeMany<P> for IntEncoder<I> {
     fn encode_part_of_each<S, W: Part<S, P>>(
         &mut self,
         items: &[S],
@@ -255,6 +259,10 @@ impl<I: ColumnInt, P: AsInt<I>> EncodeMany<P> for IntEncoder<I> {
         self.values = push_parts(items, which, ints);
         Ok(())
     }
+
+    ghost of_shape = { λ e. sym (P.as_int_columns []) };
+
+    ghost surely = { λ e n never. absurd never };
 }
 
 // The integers of these bytes.

@@ -4,7 +4,9 @@ ghost use Rattle.std.specs.Prelude.{refl, IfSome};
 ghost use Rattle.bitcode_coder.specs.Coder.{ReadsValue, ReadsValues};
 
 use crate::int::{IntDecoder, IntEncoder};
-use bitcode_coder::coder::{Buffer, Decoder, EncodeMany, Encoder, HoldsData, NewDecoder, View};
+use bitcode_coder::coder::{
+    Buffer, Decoder, EncodeMany, Encoder, HoldsColumns, HoldsData, NewDecoder, View,
+};
 use bitcode_coder::column_free::ColumnFree;
 use bitcode_coder::direct::{list_by_decoder, one_by_decoder};
 use bitcode_coder::part::Part;
@@ -25,17 +27,21 @@ pub struct I8Encoder {
     column: IntEncoder<i8>,
 }
 
-impl Buffer for I8Encoder {
-    ghost columns = { λ e. ⟦<IntEncoder<i8> as Buffer>⟧.columns e.column };
+impl HoldsColumns for I8Encoder {
+    ghost columns = { λ e. ⟦<IntEncoder<i8> as HoldsColumns>⟧.columns e.column };
 
-    ghost room = { λ e. ⟦<IntEncoder<i8> as Buffer>⟧.room e.column };
+    ghost room = { λ e. ⟦<IntEncoder<i8> as HoldsColumns>⟧.room e.column };
 
-    ghost capacity = { λ e. ⟦<IntEncoder<i8> as Buffer>⟧.capacity e.column };
+    ghost capacity = { λ e. ⟦<IntEncoder<i8> as HoldsColumns>⟧.capacity e.column };
 
     ghost surely_overflows = { λ e n. ⊥ };
 
-    ghost overflows = { λ e n. ⟦<IntEncoder<i8> as Buffer>⟧.overflows e.column n };
+    ghost overflows = { λ e n. ⟦<IntEncoder<i8> as HoldsColumns>⟧.overflows e.column n };
 
+    ghost writes_free = { ⟦<IntEncoder<i8> as HoldsColumns>⟧.writes_free };
+}
+
+impl Buffer for I8Encoder {
     fn new(alloc: Global) -> Self {
         I8Encoder {
             column: IntEncoder::new(alloc),
@@ -56,8 +62,6 @@ impl Buffer for I8Encoder {
 }
 
 impl Encoder<i8> for I8Encoder {
-    ghost writes_free = { ⟦<IntEncoder<i8> as Encoder<i8>>⟧.writes_free };
-
     fn encode(&mut self, t: &i8) -> Result<(), Error> {
         self.column.encode(t)
     }
@@ -66,8 +70,14 @@ impl Encoder<i8> for I8Encoder {
         self.column.write_directly(t, out)
     }
 
+    ghost of_shape = { λ e. refl };
+
+    ghost surely = { λ e n never. absurd never };
+}
+
+impl EncodeMany<i8> for I8Encoder {
     fn is_primitive() -> bool {
-        <IntEncoder<i8> as Encoder<i8>>::is_primitive()
+        <IntEncoder<i8> as EncodeMany<i8>>::is_primitive()
     }
 
     fn encode_slice(&mut self, items: &[i8]) -> Result<(), Error> {
@@ -78,12 +88,6 @@ impl Encoder<i8> for I8Encoder {
         self.column.write_slice_directly(items, out)
     }
 
-    ghost of_shape = { λ e. refl };
-
-    ghost surely = { λ e n never. absurd never };
-}
-
-impl EncodeMany<i8> for I8Encoder {
     fn encode_part_of_each<S, W: Part<S, i8>>(
         &mut self,
         items: &[S],
@@ -92,6 +96,10 @@ impl EncodeMany<i8> for I8Encoder {
     ) -> Result<(), Error> {
         self.column.encode_part_of_each(items, which, first)
     }
+
+    ghost of_shape = { λ e. refl };
+
+    ghost surely = { λ e n never. absurd never };
 }
 
 /// The column that values of `i8` are read from, as from `IntDecoder<i8>`.
@@ -185,17 +193,21 @@ pub struct I16Encoder {
     column: IntEncoder<i16>,
 }
 
-impl Buffer for I16Encoder {
-    ghost columns = { λ e. ⟦<IntEncoder<i16> as Buffer>⟧.columns e.column };
+impl HoldsColumns for I16Encoder {
+    ghost columns = { λ e. ⟦<IntEncoder<i16> as HoldsColumns>⟧.columns e.column };
 
-    ghost room = { λ e. ⟦<IntEncoder<i16> as Buffer>⟧.room e.column };
+    ghost room = { λ e. ⟦<IntEncoder<i16> as HoldsColumns>⟧.room e.column };
 
-    ghost capacity = { λ e. ⟦<IntEncoder<i16> as Buffer>⟧.capacity e.column };
+    ghost capacity = { λ e. ⟦<IntEncoder<i16> as HoldsColumns>⟧.capacity e.column };
 
     ghost surely_overflows = { λ e n. ⊥ };
 
-    ghost overflows = { λ e n. ⟦<IntEncoder<i16> as Buffer>⟧.overflows e.column n };
+    ghost overflows = { λ e n. ⟦<IntEncoder<i16> as HoldsColumns>⟧.overflows e.column n };
 
+    ghost writes_free = { ⟦<IntEncoder<i16> as HoldsColumns>⟧.writes_free };
+}
+
+impl Buffer for I16Encoder {
     fn new(alloc: Global) -> Self {
         I16Encoder {
             column: IntEncoder::new(alloc),
@@ -216,8 +228,6 @@ impl Buffer for I16Encoder {
 }
 
 impl Encoder<i16> for I16Encoder {
-    ghost writes_free = { ⟦<IntEncoder<i16> as Encoder<i16>>⟧.writes_free };
-
     fn encode(&mut self, t: &i16) -> Result<(), Error> {
         self.column.encode(t)
     }
@@ -226,8 +236,14 @@ impl Encoder<i16> for I16Encoder {
         self.column.write_directly(t, out)
     }
 
+    ghost of_shape = { λ e. refl };
+
+    ghost surely = { λ e n never. absurd never };
+}
+
+impl EncodeMany<i16> for I16Encoder {
     fn is_primitive() -> bool {
-        <IntEncoder<i16> as Encoder<i16>>::is_primitive()
+        <IntEncoder<i16> as EncodeMany<i16>>::is_primitive()
     }
 
     fn encode_slice(&mut self, items: &[i16]) -> Result<(), Error> {
@@ -238,12 +254,6 @@ impl Encoder<i16> for I16Encoder {
         self.column.write_slice_directly(items, out)
     }
 
-    ghost of_shape = { λ e. refl };
-
-    ghost surely = { λ e n never. absurd never };
-}
-
-impl EncodeMany<i16> for I16Encoder {
     fn encode_part_of_each<S, W: Part<S, i16>>(
         &mut self,
         items: &[S],
@@ -252,6 +262,10 @@ impl EncodeMany<i16> for I16Encoder {
     ) -> Result<(), Error> {
         self.column.encode_part_of_each(items, which, first)
     }
+
+    ghost of_shape = { λ e. refl };
+
+    ghost surely = { λ e n never. absurd never };
 }
 
 /// The column that values of `i16` are read from, as from `IntDecoder<i16>`.
@@ -345,17 +359,21 @@ pub struct I32Encoder {
     column: IntEncoder<i32>,
 }
 
-impl Buffer for I32Encoder {
-    ghost columns = { λ e. ⟦<IntEncoder<i32> as Buffer>⟧.columns e.column };
+impl HoldsColumns for I32Encoder {
+    ghost columns = { λ e. ⟦<IntEncoder<i32> as HoldsColumns>⟧.columns e.column };
 
-    ghost room = { λ e. ⟦<IntEncoder<i32> as Buffer>⟧.room e.column };
+    ghost room = { λ e. ⟦<IntEncoder<i32> as HoldsColumns>⟧.room e.column };
 
-    ghost capacity = { λ e. ⟦<IntEncoder<i32> as Buffer>⟧.capacity e.column };
+    ghost capacity = { λ e. ⟦<IntEncoder<i32> as HoldsColumns>⟧.capacity e.column };
 
     ghost surely_overflows = { λ e n. ⊥ };
 
-    ghost overflows = { λ e n. ⟦<IntEncoder<i32> as Buffer>⟧.overflows e.column n };
+    ghost overflows = { λ e n. ⟦<IntEncoder<i32> as HoldsColumns>⟧.overflows e.column n };
 
+    ghost writes_free = { ⟦<IntEncoder<i32> as HoldsColumns>⟧.writes_free };
+}
+
+impl Buffer for I32Encoder {
     fn new(alloc: Global) -> Self {
         I32Encoder {
             column: IntEncoder::new(alloc),
@@ -376,8 +394,6 @@ impl Buffer for I32Encoder {
 }
 
 impl Encoder<i32> for I32Encoder {
-    ghost writes_free = { ⟦<IntEncoder<i32> as Encoder<i32>>⟧.writes_free };
-
     fn encode(&mut self, t: &i32) -> Result<(), Error> {
         self.column.encode(t)
     }
@@ -386,8 +402,14 @@ impl Encoder<i32> for I32Encoder {
         self.column.write_directly(t, out)
     }
 
+    ghost of_shape = { λ e. refl };
+
+    ghost surely = { λ e n never. absurd never };
+}
+
+impl EncodeMany<i32> for I32Encoder {
     fn is_primitive() -> bool {
-        <IntEncoder<i32> as Encoder<i32>>::is_primitive()
+        <IntEncoder<i32> as EncodeMany<i32>>::is_primitive()
     }
 
     fn encode_slice(&mut self, items: &[i32]) -> Result<(), Error> {
@@ -398,12 +420,6 @@ impl Encoder<i32> for I32Encoder {
         self.column.write_slice_directly(items, out)
     }
 
-    ghost of_shape = { λ e. refl };
-
-    ghost surely = { λ e n never. absurd never };
-}
-
-impl EncodeMany<i32> for I32Encoder {
     fn encode_part_of_each<S, W: Part<S, i32>>(
         &mut self,
         items: &[S],
@@ -412,6 +428,10 @@ impl EncodeMany<i32> for I32Encoder {
     ) -> Result<(), Error> {
         self.column.encode_part_of_each(items, which, first)
     }
+
+    ghost of_shape = { λ e. refl };
+
+    ghost surely = { λ e n never. absurd never };
 }
 
 /// The column that values of `i32` are read from, as from `IntDecoder<i32>`.
@@ -505,17 +525,21 @@ pub struct I64Encoder {
     column: IntEncoder<i64>,
 }
 
-impl Buffer for I64Encoder {
-    ghost columns = { λ e. ⟦<IntEncoder<i64> as Buffer>⟧.columns e.column };
+impl HoldsColumns for I64Encoder {
+    ghost columns = { λ e. ⟦<IntEncoder<i64> as HoldsColumns>⟧.columns e.column };
 
-    ghost room = { λ e. ⟦<IntEncoder<i64> as Buffer>⟧.room e.column };
+    ghost room = { λ e. ⟦<IntEncoder<i64> as HoldsColumns>⟧.room e.column };
 
-    ghost capacity = { λ e. ⟦<IntEncoder<i64> as Buffer>⟧.capacity e.column };
+    ghost capacity = { λ e. ⟦<IntEncoder<i64> as HoldsColumns>⟧.capacity e.column };
 
     ghost surely_overflows = { λ e n. ⊥ };
 
-    ghost overflows = { λ e n. ⟦<IntEncoder<i64> as Buffer>⟧.overflows e.column n };
+    ghost overflows = { λ e n. ⟦<IntEncoder<i64> as HoldsColumns>⟧.overflows e.column n };
 
+    ghost writes_free = { ⟦<IntEncoder<i64> as HoldsColumns>⟧.writes_free };
+}
+
+impl Buffer for I64Encoder {
     fn new(alloc: Global) -> Self {
         I64Encoder {
             column: IntEncoder::new(alloc),
@@ -536,8 +560,6 @@ impl Buffer for I64Encoder {
 }
 
 impl Encoder<i64> for I64Encoder {
-    ghost writes_free = { ⟦<IntEncoder<i64> as Encoder<i64>>⟧.writes_free };
-
     fn encode(&mut self, t: &i64) -> Result<(), Error> {
         self.column.encode(t)
     }
@@ -546,8 +568,14 @@ impl Encoder<i64> for I64Encoder {
         self.column.write_directly(t, out)
     }
 
+    ghost of_shape = { λ e. refl };
+
+    ghost surely = { λ e n never. absurd never };
+}
+
+impl EncodeMany<i64> for I64Encoder {
     fn is_primitive() -> bool {
-        <IntEncoder<i64> as Encoder<i64>>::is_primitive()
+        <IntEncoder<i64> as EncodeMany<i64>>::is_primitive()
     }
 
     fn encode_slice(&mut self, items: &[i64]) -> Result<(), Error> {
@@ -558,12 +586,6 @@ impl Encoder<i64> for I64Encoder {
         self.column.write_slice_directly(items, out)
     }
 
-    ghost of_shape = { λ e. refl };
-
-    ghost surely = { λ e n never. absurd never };
-}
-
-impl EncodeMany<i64> for I64Encoder {
     fn encode_part_of_each<S, W: Part<S, i64>>(
         &mut self,
         items: &[S],
@@ -572,6 +594,10 @@ impl EncodeMany<i64> for I64Encoder {
     ) -> Result<(), Error> {
         self.column.encode_part_of_each(items, which, first)
     }
+
+    ghost of_shape = { λ e. refl };
+
+    ghost surely = { λ e n never. absurd never };
 }
 
 /// The column that values of `i64` are read from, as from `IntDecoder<i64>`.
@@ -665,17 +691,21 @@ pub struct I128Encoder {
     column: IntEncoder<i128>,
 }
 
-impl Buffer for I128Encoder {
-    ghost columns = { λ e. ⟦<IntEncoder<i128> as Buffer>⟧.columns e.column };
+impl HoldsColumns for I128Encoder {
+    ghost columns = { λ e. ⟦<IntEncoder<i128> as HoldsColumns>⟧.columns e.column };
 
-    ghost room = { λ e. ⟦<IntEncoder<i128> as Buffer>⟧.room e.column };
+    ghost room = { λ e. ⟦<IntEncoder<i128> as HoldsColumns>⟧.room e.column };
 
-    ghost capacity = { λ e. ⟦<IntEncoder<i128> as Buffer>⟧.capacity e.column };
+    ghost capacity = { λ e. ⟦<IntEncoder<i128> as HoldsColumns>⟧.capacity e.column };
 
     ghost surely_overflows = { λ e n. ⊥ };
 
-    ghost overflows = { λ e n. ⟦<IntEncoder<i128> as Buffer>⟧.overflows e.column n };
+    ghost overflows = { λ e n. ⟦<IntEncoder<i128> as HoldsColumns>⟧.overflows e.column n };
 
+    ghost writes_free = { ⟦<IntEncoder<i128> as HoldsColumns>⟧.writes_free };
+}
+
+impl Buffer for I128Encoder {
     fn new(alloc: Global) -> Self {
         I128Encoder {
             column: IntEncoder::new(alloc),
@@ -696,8 +726,6 @@ impl Buffer for I128Encoder {
 }
 
 impl Encoder<i128> for I128Encoder {
-    ghost writes_free = { ⟦<IntEncoder<i128> as Encoder<i128>>⟧.writes_free };
-
     fn encode(&mut self, t: &i128) -> Result<(), Error> {
         self.column.encode(t)
     }
@@ -706,8 +734,14 @@ impl Encoder<i128> for I128Encoder {
         self.column.write_directly(t, out)
     }
 
+    ghost of_shape = { λ e. refl };
+
+    ghost surely = { λ e n never. absurd never };
+}
+
+impl EncodeMany<i128> for I128Encoder {
     fn is_primitive() -> bool {
-        <IntEncoder<i128> as Encoder<i128>>::is_primitive()
+        <IntEncoder<i128> as EncodeMany<i128>>::is_primitive()
     }
 
     fn encode_slice(&mut self, items: &[i128]) -> Result<(), Error> {
@@ -718,12 +752,6 @@ impl Encoder<i128> for I128Encoder {
         self.column.write_slice_directly(items, out)
     }
 
-    ghost of_shape = { λ e. refl };
-
-    ghost surely = { λ e n never. absurd never };
-}
-
-impl EncodeMany<i128> for I128Encoder {
     fn encode_part_of_each<S, W: Part<S, i128>>(
         &mut self,
         items: &[S],
@@ -732,6 +760,10 @@ impl EncodeMany<i128> for I128Encoder {
     ) -> Result<(), Error> {
         self.column.encode_part_of_each(items, which, first)
     }
+
+    ghost of_shape = { λ e. refl };
+
+    ghost surely = { λ e n never. absurd never };
 }
 
 /// The column that values of `i128` are read from, as from `IntDecoder<i128>`.
@@ -825,17 +857,21 @@ pub struct IsizeEncoder {
     column: IntEncoder<isize>,
 }
 
-impl Buffer for IsizeEncoder {
-    ghost columns = { λ e. ⟦<IntEncoder<isize> as Buffer>⟧.columns e.column };
+impl HoldsColumns for IsizeEncoder {
+    ghost columns = { λ e. ⟦<IntEncoder<isize> as HoldsColumns>⟧.columns e.column };
 
-    ghost room = { λ e. ⟦<IntEncoder<isize> as Buffer>⟧.room e.column };
+    ghost room = { λ e. ⟦<IntEncoder<isize> as HoldsColumns>⟧.room e.column };
 
-    ghost capacity = { λ e. ⟦<IntEncoder<isize> as Buffer>⟧.capacity e.column };
+    ghost capacity = { λ e. ⟦<IntEncoder<isize> as HoldsColumns>⟧.capacity e.column };
 
     ghost surely_overflows = { λ e n. ⊥ };
 
-    ghost overflows = { λ e n. ⟦<IntEncoder<isize> as Buffer>⟧.overflows e.column n };
+    ghost overflows = { λ e n. ⟦<IntEncoder<isize> as HoldsColumns>⟧.overflows e.column n };
 
+    ghost writes_free = { ⟦<IntEncoder<isize> as HoldsColumns>⟧.writes_free };
+}
+
+impl Buffer for IsizeEncoder {
     fn new(alloc: Global) -> Self {
         IsizeEncoder {
             column: IntEncoder::new(alloc),
@@ -856,8 +892,6 @@ impl Buffer for IsizeEncoder {
 }
 
 impl Encoder<isize> for IsizeEncoder {
-    ghost writes_free = { ⟦<IntEncoder<isize> as Encoder<isize>>⟧.writes_free };
-
     fn encode(&mut self, t: &isize) -> Result<(), Error> {
         self.column.encode(t)
     }
@@ -866,8 +900,14 @@ impl Encoder<isize> for IsizeEncoder {
         self.column.write_directly(t, out)
     }
 
+    ghost of_shape = { λ e. refl };
+
+    ghost surely = { λ e n never. absurd never };
+}
+
+impl EncodeMany<isize> for IsizeEncoder {
     fn is_primitive() -> bool {
-        <IntEncoder<isize> as Encoder<isize>>::is_primitive()
+        <IntEncoder<isize> as EncodeMany<isize>>::is_primitive()
     }
 
     fn encode_slice(&mut self, items: &[isize]) -> Result<(), Error> {
@@ -878,12 +918,6 @@ impl Encoder<isize> for IsizeEncoder {
         self.column.write_slice_directly(items, out)
     }
 
-    ghost of_shape = { λ e. refl };
-
-    ghost surely = { λ e n never. absurd never };
-}
-
-impl EncodeMany<isize> for IsizeEncoder {
     fn encode_part_of_each<S, W: Part<S, isize>>(
         &mut self,
         items: &[S],
@@ -892,6 +926,10 @@ impl EncodeMany<isize> for IsizeEncoder {
     ) -> Result<(), Error> {
         self.column.encode_part_of_each(items, which, first)
     }
+
+    ghost of_shape = { λ e. refl };
+
+    ghost surely = { λ e n never. absurd never };
 }
 
 /// The column that values of `isize` are read from, as from `IntDecoder<isize>`.

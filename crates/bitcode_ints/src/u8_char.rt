@@ -5,7 +5,7 @@ ghost use Rattle.bitcode_coder.specs.Columns.{raws, one};
 ghost use Rattle.bitcode_ints.specs.U8Char.{raw_data};
 ghost use Rattle.bitcode_coder.specs.Spelling.{natural};
 
-use bitcode_coder::coder::{Buffer, EncodeMany, Encoder};
+use bitcode_coder::coder::{Buffer, EncodeMany, Encoder, HoldsColumns};
 use bitcode_coder::part::{Itself, Part};
 use bitcode_memory::error::Error;
 use bitcode_memory::fast::{FastVec, PushUnchecked};
@@ -56,7 +56,7 @@ pub struct U8CharEncoder {
     bytes: FastVec<u8>,
 }
 
-impl Buffer for U8CharEncoder {
+impl HoldsColumns for U8CharEncoder {
     ghost columns = { λ e. one raws (map natural (fast_items e.bytes)) };
 
     ghost room = { λ e. fast_room e.bytes };
@@ -67,6 +67,10 @@ impl Buffer for U8CharEncoder {
 
     ghost overflows = { λ e n. ⊥ };
 
+    ghost writes_free = { true };
+}
+
+impl Buffer for U8CharEncoder {
     fn new(alloc: Global) -> Self {
         U8CharEncoder {
             alloc,
@@ -90,13 +94,17 @@ impl Buffer for U8CharEncoder {
 }
 
 impl Encoder<U8Char> for U8CharEncoder {
-    ghost writes_free = { true };
-
     fn encode(&mut self, t: &U8Char) -> Result<(), Error> {
         self.bytes.push_unchecked(t.0);
         Ok(())
     }
 
+    ghost of_shape = { λ e. refl };
+
+    ghost surely = { λ e n never. absurd never };
+}
+
+impl EncodeMany<U8Char> for U8CharEncoder {
     fn is_primitive() -> bool {
         true
     }
@@ -107,12 +115,6 @@ impl Encoder<U8Char> for U8CharEncoder {
         Ok(())
     }
 
-    ghost of_shape = { λ e. refl };
-
-    ghost surely = { λ e n never. absurd never };
-}
-
-impl EncodeMany<U8Char> for U8CharEncoder {
     fn encode_part_of_each<S, W: Part<S, U8Char>>(
         &mut self,
         items: &[S],
@@ -123,4 +125,8 @@ impl EncodeMany<U8Char> for U8CharEncoder {
         self.bytes = push_parts(items, which, bytes);
         Ok(())
     }
+
+    ghost of_shape = { λ e. refl };
+
+    ghost surely = { λ e n never. absurd never };
 }

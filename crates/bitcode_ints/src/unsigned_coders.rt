@@ -4,7 +4,9 @@ ghost use Rattle.std.specs.Prelude.{refl, IfSome};
 ghost use Rattle.bitcode_coder.specs.Coder.{ReadsValue, ReadsValues};
 
 use crate::int::{IntDecoder, IntEncoder};
-use bitcode_coder::coder::{Buffer, Decoder, EncodeMany, Encoder, HoldsData, NewDecoder, View};
+use bitcode_coder::coder::{
+    Buffer, Decoder, EncodeMany, Encoder, HoldsColumns, HoldsData, NewDecoder, View,
+};
 use bitcode_coder::column_free::ColumnFree;
 use bitcode_coder::direct::{list_by_decoder, one_by_decoder};
 use bitcode_coder::part::Part;
@@ -25,17 +27,21 @@ pub struct U8Encoder {
     column: IntEncoder<u8>,
 }
 
-impl Buffer for U8Encoder {
-    ghost columns = { λ e. ⟦<IntEncoder<u8> as Buffer>⟧.columns e.column };
+impl HoldsColumns for U8Encoder {
+    ghost columns = { λ e. ⟦<IntEncoder<u8> as HoldsColumns>⟧.columns e.column };
 
-    ghost room = { λ e. ⟦<IntEncoder<u8> as Buffer>⟧.room e.column };
+    ghost room = { λ e. ⟦<IntEncoder<u8> as HoldsColumns>⟧.room e.column };
 
-    ghost capacity = { λ e. ⟦<IntEncoder<u8> as Buffer>⟧.capacity e.column };
+    ghost capacity = { λ e. ⟦<IntEncoder<u8> as HoldsColumns>⟧.capacity e.column };
 
     ghost surely_overflows = { λ e n. ⊥ };
 
-    ghost overflows = { λ e n. ⟦<IntEncoder<u8> as Buffer>⟧.overflows e.column n };
+    ghost overflows = { λ e n. ⟦<IntEncoder<u8> as HoldsColumns>⟧.overflows e.column n };
 
+    ghost writes_free = { ⟦<IntEncoder<u8> as HoldsColumns>⟧.writes_free };
+}
+
+impl Buffer for U8Encoder {
     fn new(alloc: Global) -> Self {
         U8Encoder {
             column: IntEncoder::new(alloc),
@@ -56,8 +62,6 @@ impl Buffer for U8Encoder {
 }
 
 impl Encoder<u8> for U8Encoder {
-    ghost writes_free = { ⟦<IntEncoder<u8> as Encoder<u8>>⟧.writes_free };
-
     fn encode(&mut self, t: &u8) -> Result<(), Error> {
         self.column.encode(t)
     }
@@ -66,8 +70,14 @@ impl Encoder<u8> for U8Encoder {
         self.column.write_directly(t, out)
     }
 
+    ghost of_shape = { λ e. refl };
+
+    ghost surely = { λ e n never. absurd never };
+}
+
+impl EncodeMany<u8> for U8Encoder {
     fn is_primitive() -> bool {
-        <IntEncoder<u8> as Encoder<u8>>::is_primitive()
+        <IntEncoder<u8> as EncodeMany<u8>>::is_primitive()
     }
 
     fn encode_slice(&mut self, items: &[u8]) -> Result<(), Error> {
@@ -78,12 +88,6 @@ impl Encoder<u8> for U8Encoder {
         self.column.write_slice_directly(items, out)
     }
 
-    ghost of_shape = { λ e. refl };
-
-    ghost surely = { λ e n never. absurd never };
-}
-
-impl EncodeMany<u8> for U8Encoder {
     fn encode_part_of_each<S, W: Part<S, u8>>(
         &mut self,
         items: &[S],
@@ -92,6 +96,10 @@ impl EncodeMany<u8> for U8Encoder {
     ) -> Result<(), Error> {
         self.column.encode_part_of_each(items, which, first)
     }
+
+    ghost of_shape = { λ e. refl };
+
+    ghost surely = { λ e n never. absurd never };
 }
 
 /// The column that values of `u8` are read from, as from `IntDecoder<u8>`.
@@ -185,17 +193,21 @@ pub struct U16Encoder {
     column: IntEncoder<u16>,
 }
 
-impl Buffer for U16Encoder {
-    ghost columns = { λ e. ⟦<IntEncoder<u16> as Buffer>⟧.columns e.column };
+impl HoldsColumns for U16Encoder {
+    ghost columns = { λ e. ⟦<IntEncoder<u16> as HoldsColumns>⟧.columns e.column };
 
-    ghost room = { λ e. ⟦<IntEncoder<u16> as Buffer>⟧.room e.column };
+    ghost room = { λ e. ⟦<IntEncoder<u16> as HoldsColumns>⟧.room e.column };
 
-    ghost capacity = { λ e. ⟦<IntEncoder<u16> as Buffer>⟧.capacity e.column };
+    ghost capacity = { λ e. ⟦<IntEncoder<u16> as HoldsColumns>⟧.capacity e.column };
 
     ghost surely_overflows = { λ e n. ⊥ };
 
-    ghost overflows = { λ e n. ⟦<IntEncoder<u16> as Buffer>⟧.overflows e.column n };
+    ghost overflows = { λ e n. ⟦<IntEncoder<u16> as HoldsColumns>⟧.overflows e.column n };
 
+    ghost writes_free = { ⟦<IntEncoder<u16> as HoldsColumns>⟧.writes_free };
+}
+
+impl Buffer for U16Encoder {
     fn new(alloc: Global) -> Self {
         U16Encoder {
             column: IntEncoder::new(alloc),
@@ -216,8 +228,6 @@ impl Buffer for U16Encoder {
 }
 
 impl Encoder<u16> for U16Encoder {
-    ghost writes_free = { ⟦<IntEncoder<u16> as Encoder<u16>>⟧.writes_free };
-
     fn encode(&mut self, t: &u16) -> Result<(), Error> {
         self.column.encode(t)
     }
@@ -226,8 +236,14 @@ impl Encoder<u16> for U16Encoder {
         self.column.write_directly(t, out)
     }
 
+    ghost of_shape = { λ e. refl };
+
+    ghost surely = { λ e n never. absurd never };
+}
+
+impl EncodeMany<u16> for U16Encoder {
     fn is_primitive() -> bool {
-        <IntEncoder<u16> as Encoder<u16>>::is_primitive()
+        <IntEncoder<u16> as EncodeMany<u16>>::is_primitive()
     }
 
     fn encode_slice(&mut self, items: &[u16]) -> Result<(), Error> {
@@ -238,12 +254,6 @@ impl Encoder<u16> for U16Encoder {
         self.column.write_slice_directly(items, out)
     }
 
-    ghost of_shape = { λ e. refl };
-
-    ghost surely = { λ e n never. absurd never };
-}
-
-impl EncodeMany<u16> for U16Encoder {
     fn encode_part_of_each<S, W: Part<S, u16>>(
         &mut self,
         items: &[S],
@@ -252,6 +262,10 @@ impl EncodeMany<u16> for U16Encoder {
     ) -> Result<(), Error> {
         self.column.encode_part_of_each(items, which, first)
     }
+
+    ghost of_shape = { λ e. refl };
+
+    ghost surely = { λ e n never. absurd never };
 }
 
 /// The column that values of `u16` are read from, as from `IntDecoder<u16>`.
@@ -345,17 +359,21 @@ pub struct U32Encoder {
     column: IntEncoder<u32>,
 }
 
-impl Buffer for U32Encoder {
-    ghost columns = { λ e. ⟦<IntEncoder<u32> as Buffer>⟧.columns e.column };
+impl HoldsColumns for U32Encoder {
+    ghost columns = { λ e. ⟦<IntEncoder<u32> as HoldsColumns>⟧.columns e.column };
 
-    ghost room = { λ e. ⟦<IntEncoder<u32> as Buffer>⟧.room e.column };
+    ghost room = { λ e. ⟦<IntEncoder<u32> as HoldsColumns>⟧.room e.column };
 
-    ghost capacity = { λ e. ⟦<IntEncoder<u32> as Buffer>⟧.capacity e.column };
+    ghost capacity = { λ e. ⟦<IntEncoder<u32> as HoldsColumns>⟧.capacity e.column };
 
     ghost surely_overflows = { λ e n. ⊥ };
 
-    ghost overflows = { λ e n. ⟦<IntEncoder<u32> as Buffer>⟧.overflows e.column n };
+    ghost overflows = { λ e n. ⟦<IntEncoder<u32> as HoldsColumns>⟧.overflows e.column n };
 
+    ghost writes_free = { ⟦<IntEncoder<u32> as HoldsColumns>⟧.writes_free };
+}
+
+impl Buffer for U32Encoder {
     fn new(alloc: Global) -> Self {
         U32Encoder {
             column: IntEncoder::new(alloc),
@@ -376,8 +394,6 @@ impl Buffer for U32Encoder {
 }
 
 impl Encoder<u32> for U32Encoder {
-    ghost writes_free = { ⟦<IntEncoder<u32> as Encoder<u32>>⟧.writes_free };
-
     fn encode(&mut self, t: &u32) -> Result<(), Error> {
         self.column.encode(t)
     }
@@ -386,8 +402,14 @@ impl Encoder<u32> for U32Encoder {
         self.column.write_directly(t, out)
     }
 
+    ghost of_shape = { λ e. refl };
+
+    ghost surely = { λ e n never. absurd never };
+}
+
+impl EncodeMany<u32> for U32Encoder {
     fn is_primitive() -> bool {
-        <IntEncoder<u32> as Encoder<u32>>::is_primitive()
+        <IntEncoder<u32> as EncodeMany<u32>>::is_primitive()
     }
 
     fn encode_slice(&mut self, items: &[u32]) -> Result<(), Error> {
@@ -398,12 +420,6 @@ impl Encoder<u32> for U32Encoder {
         self.column.write_slice_directly(items, out)
     }
 
-    ghost of_shape = { λ e. refl };
-
-    ghost surely = { λ e n never. absurd never };
-}
-
-impl EncodeMany<u32> for U32Encoder {
     fn encode_part_of_each<S, W: Part<S, u32>>(
         &mut self,
         items: &[S],
@@ -412,6 +428,10 @@ impl EncodeMany<u32> for U32Encoder {
     ) -> Result<(), Error> {
         self.column.encode_part_of_each(items, which, first)
     }
+
+    ghost of_shape = { λ e. refl };
+
+    ghost surely = { λ e n never. absurd never };
 }
 
 /// The column that values of `u32` are read from, as from `IntDecoder<u32>`.
@@ -505,17 +525,21 @@ pub struct U64Encoder {
     column: IntEncoder<u64>,
 }
 
-impl Buffer for U64Encoder {
-    ghost columns = { λ e. ⟦<IntEncoder<u64> as Buffer>⟧.columns e.column };
+impl HoldsColumns for U64Encoder {
+    ghost columns = { λ e. ⟦<IntEncoder<u64> as HoldsColumns>⟧.columns e.column };
 
-    ghost room = { λ e. ⟦<IntEncoder<u64> as Buffer>⟧.room e.column };
+    ghost room = { λ e. ⟦<IntEncoder<u64> as HoldsColumns>⟧.room e.column };
 
-    ghost capacity = { λ e. ⟦<IntEncoder<u64> as Buffer>⟧.capacity e.column };
+    ghost capacity = { λ e. ⟦<IntEncoder<u64> as HoldsColumns>⟧.capacity e.column };
 
     ghost surely_overflows = { λ e n. ⊥ };
 
-    ghost overflows = { λ e n. ⟦<IntEncoder<u64> as Buffer>⟧.overflows e.column n };
+    ghost overflows = { λ e n. ⟦<IntEncoder<u64> as HoldsColumns>⟧.overflows e.column n };
 
+    ghost writes_free = { ⟦<IntEncoder<u64> as HoldsColumns>⟧.writes_free };
+}
+
+impl Buffer for U64Encoder {
     fn new(alloc: Global) -> Self {
         U64Encoder {
             column: IntEncoder::new(alloc),
@@ -536,8 +560,6 @@ impl Buffer for U64Encoder {
 }
 
 impl Encoder<u64> for U64Encoder {
-    ghost writes_free = { ⟦<IntEncoder<u64> as Encoder<u64>>⟧.writes_free };
-
     fn encode(&mut self, t: &u64) -> Result<(), Error> {
         self.column.encode(t)
     }
@@ -546,8 +568,14 @@ impl Encoder<u64> for U64Encoder {
         self.column.write_directly(t, out)
     }
 
+    ghost of_shape = { λ e. refl };
+
+    ghost surely = { λ e n never. absurd never };
+}
+
+impl EncodeMany<u64> for U64Encoder {
     fn is_primitive() -> bool {
-        <IntEncoder<u64> as Encoder<u64>>::is_primitive()
+        <IntEncoder<u64> as EncodeMany<u64>>::is_primitive()
     }
 
     fn encode_slice(&mut self, items: &[u64]) -> Result<(), Error> {
@@ -558,12 +586,6 @@ impl Encoder<u64> for U64Encoder {
         self.column.write_slice_directly(items, out)
     }
 
-    ghost of_shape = { λ e. refl };
-
-    ghost surely = { λ e n never. absurd never };
-}
-
-impl EncodeMany<u64> for U64Encoder {
     fn encode_part_of_each<S, W: Part<S, u64>>(
         &mut self,
         items: &[S],
@@ -572,6 +594,10 @@ impl EncodeMany<u64> for U64Encoder {
     ) -> Result<(), Error> {
         self.column.encode_part_of_each(items, which, first)
     }
+
+    ghost of_shape = { λ e. refl };
+
+    ghost surely = { λ e n never. absurd never };
 }
 
 /// The column that values of `u64` are read from, as from `IntDecoder<u64>`.
@@ -665,17 +691,21 @@ pub struct U128Encoder {
     column: IntEncoder<u128>,
 }
 
-impl Buffer for U128Encoder {
-    ghost columns = { λ e. ⟦<IntEncoder<u128> as Buffer>⟧.columns e.column };
+impl HoldsColumns for U128Encoder {
+    ghost columns = { λ e. ⟦<IntEncoder<u128> as HoldsColumns>⟧.columns e.column };
 
-    ghost room = { λ e. ⟦<IntEncoder<u128> as Buffer>⟧.room e.column };
+    ghost room = { λ e. ⟦<IntEncoder<u128> as HoldsColumns>⟧.room e.column };
 
-    ghost capacity = { λ e. ⟦<IntEncoder<u128> as Buffer>⟧.capacity e.column };
+    ghost capacity = { λ e. ⟦<IntEncoder<u128> as HoldsColumns>⟧.capacity e.column };
 
     ghost surely_overflows = { λ e n. ⊥ };
 
-    ghost overflows = { λ e n. ⟦<IntEncoder<u128> as Buffer>⟧.overflows e.column n };
+    ghost overflows = { λ e n. ⟦<IntEncoder<u128> as HoldsColumns>⟧.overflows e.column n };
 
+    ghost writes_free = { ⟦<IntEncoder<u128> as HoldsColumns>⟧.writes_free };
+}
+
+impl Buffer for U128Encoder {
     fn new(alloc: Global) -> Self {
         U128Encoder {
             column: IntEncoder::new(alloc),
@@ -696,8 +726,6 @@ impl Buffer for U128Encoder {
 }
 
 impl Encoder<u128> for U128Encoder {
-    ghost writes_free = { ⟦<IntEncoder<u128> as Encoder<u128>>⟧.writes_free };
-
     fn encode(&mut self, t: &u128) -> Result<(), Error> {
         self.column.encode(t)
     }
@@ -706,8 +734,14 @@ impl Encoder<u128> for U128Encoder {
         self.column.write_directly(t, out)
     }
 
+    ghost of_shape = { λ e. refl };
+
+    ghost surely = { λ e n never. absurd never };
+}
+
+impl EncodeMany<u128> for U128Encoder {
     fn is_primitive() -> bool {
-        <IntEncoder<u128> as Encoder<u128>>::is_primitive()
+        <IntEncoder<u128> as EncodeMany<u128>>::is_primitive()
     }
 
     fn encode_slice(&mut self, items: &[u128]) -> Result<(), Error> {
@@ -718,12 +752,6 @@ impl Encoder<u128> for U128Encoder {
         self.column.write_slice_directly(items, out)
     }
 
-    ghost of_shape = { λ e. refl };
-
-    ghost surely = { λ e n never. absurd never };
-}
-
-impl EncodeMany<u128> for U128Encoder {
     fn encode_part_of_each<S, W: Part<S, u128>>(
         &mut self,
         items: &[S],
@@ -732,6 +760,10 @@ impl EncodeMany<u128> for U128Encoder {
     ) -> Result<(), Error> {
         self.column.encode_part_of_each(items, which, first)
     }
+
+    ghost of_shape = { λ e. refl };
+
+    ghost surely = { λ e n never. absurd never };
 }
 
 /// The column that values of `u128` are read from, as from `IntDecoder<u128>`.
@@ -825,17 +857,21 @@ pub struct UsizeEncoder {
     column: IntEncoder<usize>,
 }
 
-impl Buffer for UsizeEncoder {
-    ghost columns = { λ e. ⟦<IntEncoder<usize> as Buffer>⟧.columns e.column };
+impl HoldsColumns for UsizeEncoder {
+    ghost columns = { λ e. ⟦<IntEncoder<usize> as HoldsColumns>⟧.columns e.column };
 
-    ghost room = { λ e. ⟦<IntEncoder<usize> as Buffer>⟧.room e.column };
+    ghost room = { λ e. ⟦<IntEncoder<usize> as HoldsColumns>⟧.room e.column };
 
-    ghost capacity = { λ e. ⟦<IntEncoder<usize> as Buffer>⟧.capacity e.column };
+    ghost capacity = { λ e. ⟦<IntEncoder<usize> as HoldsColumns>⟧.capacity e.column };
 
     ghost surely_overflows = { λ e n. ⊥ };
 
-    ghost overflows = { λ e n. ⟦<IntEncoder<usize> as Buffer>⟧.overflows e.column n };
+    ghost overflows = { λ e n. ⟦<IntEncoder<usize> as HoldsColumns>⟧.overflows e.column n };
 
+    ghost writes_free = { ⟦<IntEncoder<usize> as HoldsColumns>⟧.writes_free };
+}
+
+impl Buffer for UsizeEncoder {
     fn new(alloc: Global) -> Self {
         UsizeEncoder {
             column: IntEncoder::new(alloc),
@@ -856,8 +892,6 @@ impl Buffer for UsizeEncoder {
 }
 
 impl Encoder<usize> for UsizeEncoder {
-    ghost writes_free = { ⟦<IntEncoder<usize> as Encoder<usize>>⟧.writes_free };
-
     fn encode(&mut self, t: &usize) -> Result<(), Error> {
         self.column.encode(t)
     }
@@ -866,8 +900,14 @@ impl Encoder<usize> for UsizeEncoder {
         self.column.write_directly(t, out)
     }
 
+    ghost of_shape = { λ e. refl };
+
+    ghost surely = { λ e n never. absurd never };
+}
+
+impl EncodeMany<usize> for UsizeEncoder {
     fn is_primitive() -> bool {
-        <IntEncoder<usize> as Encoder<usize>>::is_primitive()
+        <IntEncoder<usize> as EncodeMany<usize>>::is_primitive()
     }
 
     fn encode_slice(&mut self, items: &[usize]) -> Result<(), Error> {
@@ -878,12 +918,6 @@ impl Encoder<usize> for UsizeEncoder {
         self.column.write_slice_directly(items, out)
     }
 
-    ghost of_shape = { λ e. refl };
-
-    ghost surely = { λ e n never. absurd never };
-}
-
-impl EncodeMany<usize> for UsizeEncoder {
     fn encode_part_of_each<S, W: Part<S, usize>>(
         &mut self,
         items: &[S],
@@ -892,6 +926,10 @@ impl EncodeMany<usize> for UsizeEncoder {
     ) -> Result<(), Error> {
         self.column.encode_part_of_each(items, which, first)
     }
+
+    ghost of_shape = { λ e. refl };
+
+    ghost surely = { λ e n never. absurd never };
 }
 
 /// The column that values of `usize` are read from, as from `IntDecoder<usize>`.

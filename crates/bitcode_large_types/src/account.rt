@@ -1,14 +1,16 @@
 //! `Account` corresponds to pairs of parts of its fields. What is below its declaration was written by
 //! `scripts/new_type`.
-ghost use Rattle.std.specs.Prelude.{◌&&◌};
-ghost use Rattle.bitcode.specs.ByHand.{columns_alike, data_as, field_alike, lists_both, pair_alike, refl};
+ghost use Rattle.bitcode.specs.ByHand.{data_as, field_alike, lists_both, pair_alike, refl};
 
 use crate::home::Home;
 use crate::trophy::Trophy;
 use bitcode::coder::{
-    Buffer, ColumnFree, Decoder, EncodeMany, Encoder, HoldsData, NewDecoder, View,
+    Buffer, ColumnFree, Decoder, EncodeMany, Encoder, HoldsColumns, HoldsData, NewDecoder, View,
 };
-use bitcode::own::{DecoderOfFields, HasField, InFields, Nth, Part, PartEncoder, StructEncoder};
+use bitcode::own::{
+    DecoderOfFields, HasField, InFields, Nth, Part, PartEncoder, PartOf, PartsEncoder,
+    StructEncoder,
+};
 use bitcode::{ConvertFrom, Error, HasDecoder, HasEncoder, Shaped, TupleEncoder};
 use std::alloc::Global;
 
@@ -331,13 +333,6 @@ impl<'a> HasDecoder<'a> for AccountPart2 {
 
 type Parts<'a> = (AccountPart0<'a>, (AccountPart1, AccountPart2));
 
-/// Names the types of all that is inside `Account`.
-pub type AccountInside<'a> = (
-    (Parts<'a>, Fields0<'a>, Fields1, Fields2),
-    <Home as HasDecoder<'a>>::Decoder,
-    crate::trophy::TrophyInside,
-);
-
 impl<'a> Shaped for Account<'a> {
     ghost data = { data_as (λ t. (
       record { id = t.id; name = t.name; country = t.country; level = t.level; active = t.active },
@@ -634,17 +629,21 @@ pub struct AccountPart0Encoder {
     fields: Held0<'static>,
 }
 
-impl Buffer for AccountPart0Encoder {
-    ghost columns = { λ e. ⟦<Held0<'static> as Buffer>⟧.columns e.fields };
+impl HoldsColumns for AccountPart0Encoder {
+    ghost columns = { λ e. ⟦<Held0<'static> as HoldsColumns>⟧.columns e.fields };
 
-    ghost room = { λ e. ⟦<Held0<'static> as Buffer>⟧.room e.fields };
+    ghost room = { λ e. ⟦<Held0<'static> as HoldsColumns>⟧.room e.fields };
 
-    ghost capacity = { λ e. ⟦<Held0<'static> as Buffer>⟧.capacity e.fields };
+    ghost capacity = { λ e. ⟦<Held0<'static> as HoldsColumns>⟧.capacity e.fields };
 
     ghost surely_overflows = { λ e n. ⊥ };
 
-    ghost overflows = { λ e n. ⟦<Held0<'static> as Buffer>⟧.overflows e.fields n };
+    ghost overflows = { λ e n. ⟦<Held0<'static> as HoldsColumns>⟧.overflows e.fields n };
 
+    ghost writes_free = { ⟦<Held0<'static> as HoldsColumns>⟧.writes_free };
+}
+
+impl Buffer for AccountPart0Encoder {
     fn new(alloc: Global) -> Self {
         AccountPart0Encoder {
             fields: Buffer::new(alloc),
@@ -664,7 +663,7 @@ impl Buffer for AccountPart0Encoder {
     }
 }
 
-impl<'a> PartEncoder<Account<'a>, AccountPart0<'a>> for AccountPart0Encoder {
+impl<'a> PartOf<Account<'a>> for AccountPart0<'a> {
     ghost shape = { ⟦<Pairs0<'static> as Shaped>⟧.data.shape };
 
     ghost lists = { lists_both (lists_both (λ t d. ⟦<u64 as Shaped>⟧.data.lists t.id d)
@@ -672,19 +671,9 @@ impl<'a> PartEncoder<Account<'a>, AccountPart0<'a>> for AccountPart0Encoder {
         (lists_both (λ t d. ⟦<&'a str as Shaped>⟧.data.lists t.country d)
         (lists_both (λ t d. ⟦<u8 as Shaped>⟧.data.lists t.level d)
         (λ t d. ⟦<bool as Shaped>⟧.data.lists t.active d))) };
+}
 
-    ghost columns = { ⟦<AccountPart0Encoder as Buffer>⟧.columns };
-
-    ghost room = { ⟦<AccountPart0Encoder as Buffer>⟧.room };
-
-    ghost surely_overflows = { ⟦<AccountPart0Encoder as Buffer>⟧.surely_overflows };
-
-    ghost writes_free = { ((⟦<<u64 as HasEncoder>::Encoder as Encoder<u64>>⟧.writes_free &&
-        ⟦<<String as HasEncoder>::Encoder as Encoder<String>>⟧.writes_free) &&
-        (⟦<<&'a str as HasEncoder>::Encoder as Encoder<&'a str>>⟧.writes_free &&
-        (⟦<<u8 as HasEncoder>::Encoder as Encoder<u8>>⟧.writes_free &&
-        ⟦<<bool as HasEncoder>::Encoder as Encoder<bool>>⟧.writes_free))) };
-
+impl<'a> PartEncoder<Account<'a>, AccountPart0<'a>> for AccountPart0Encoder {
     fn encode_part(&mut self, whole: &Account<'a>) -> Result<(), Error> {
         PartEncoder::<Account<'a>, Numbers0>::encode_part(&mut self.fields, whole)
     }
@@ -693,12 +682,18 @@ impl<'a> PartEncoder<Account<'a>, AccountPart0<'a>> for AccountPart0Encoder {
         PartEncoder::<Account<'a>, Numbers0>::write_part(&mut self.fields, whole, out)
     }
 
+    ghost of_shape = { λ e. refl };
+
+    ghost surely = { λ e n h. absurd h };
+}
+
+impl<'a> PartsEncoder<Account<'a>, AccountPart0<'a>> for AccountPart0Encoder {
     fn encode_part_in_each<S, W: Part<S, Account<'a>>>(
         &mut self,
         items: &[S],
         which: &W,
     ) -> Result<(), Error> {
-        PartEncoder::<Account<'a>, Numbers0>::encode_part_in_each(&mut self.fields, items, which)
+        PartsEncoder::<Account<'a>, Numbers0>::encode_part_in_each(&mut self.fields, items, which)
     }
 
     ghost of_shape = { λ e. refl };
@@ -718,17 +713,21 @@ pub struct AccountPart1Encoder {
     fields: Held1,
 }
 
-impl Buffer for AccountPart1Encoder {
-    ghost columns = { λ e. ⟦<Held1 as Buffer>⟧.columns e.fields };
+impl HoldsColumns for AccountPart1Encoder {
+    ghost columns = { λ e. ⟦<Held1 as HoldsColumns>⟧.columns e.fields };
 
-    ghost room = { λ e. ⟦<Held1 as Buffer>⟧.room e.fields };
+    ghost room = { λ e. ⟦<Held1 as HoldsColumns>⟧.room e.fields };
 
-    ghost capacity = { λ e. ⟦<Held1 as Buffer>⟧.capacity e.fields };
+    ghost capacity = { λ e. ⟦<Held1 as HoldsColumns>⟧.capacity e.fields };
 
     ghost surely_overflows = { λ e n. ⊥ };
 
-    ghost overflows = { λ e n. ⟦<Held1 as Buffer>⟧.overflows e.fields n };
+    ghost overflows = { λ e n. ⟦<Held1 as HoldsColumns>⟧.overflows e.fields n };
 
+    ghost writes_free = { ⟦<Held1 as HoldsColumns>⟧.writes_free };
+}
+
+impl Buffer for AccountPart1Encoder {
     fn new(alloc: Global) -> Self {
         AccountPart1Encoder {
             fields: Buffer::new(alloc),
@@ -748,7 +747,7 @@ impl Buffer for AccountPart1Encoder {
     }
 }
 
-impl<'a> PartEncoder<Account<'a>, AccountPart1> for AccountPart1Encoder {
+impl<'a> PartOf<Account<'a>> for AccountPart1 {
     ghost shape = { ⟦<Pairs1 as Shaped>⟧.data.shape };
 
     ghost lists = { lists_both (lists_both (λ t d. ⟦<i64 as Shaped>⟧.data.lists t.balance d)
@@ -757,20 +756,9 @@ impl<'a> PartEncoder<Account<'a>, AccountPart1> for AccountPart1Encoder {
         (lists_both (λ t d. ⟦<char as Shaped>⟧.data.lists t.initial d)
         (lists_both (λ t d. ⟦<Vec<String> as Shaped>⟧.data.lists t.tags d)
         (λ t d. ⟦<Home as Shaped>⟧.data.lists t.home d))) };
+}
 
-    ghost columns = { ⟦<AccountPart1Encoder as Buffer>⟧.columns };
-
-    ghost room = { ⟦<AccountPart1Encoder as Buffer>⟧.room };
-
-    ghost surely_overflows = { ⟦<AccountPart1Encoder as Buffer>⟧.surely_overflows };
-
-    ghost writes_free = { ((⟦<<i64 as HasEncoder>::Encoder as Encoder<i64>>⟧.writes_free &&
-        (⟦<<Option<i16> as HasEncoder>::Encoder as Encoder<Option<i16>>>⟧.writes_free &&
-        ⟦<<Vec<u8> as HasEncoder>::Encoder as Encoder<Vec<u8>>>⟧.writes_free)) &&
-        (⟦<<char as HasEncoder>::Encoder as Encoder<char>>⟧.writes_free &&
-        (⟦<<Vec<String> as HasEncoder>::Encoder as Encoder<Vec<String>>>⟧.writes_free &&
-        ⟦<<Home as HasEncoder>::Encoder as Encoder<Home>>⟧.writes_free))) };
-
+impl<'a> PartEncoder<Account<'a>, AccountPart1> for AccountPart1Encoder {
     fn encode_part(&mut self, whole: &Account<'a>) -> Result<(), Error> {
         PartEncoder::<Account<'a>, Numbers1>::encode_part(&mut self.fields, whole)
     }
@@ -779,12 +767,18 @@ impl<'a> PartEncoder<Account<'a>, AccountPart1> for AccountPart1Encoder {
         PartEncoder::<Account<'a>, Numbers1>::write_part(&mut self.fields, whole, out)
     }
 
+    ghost of_shape = { λ e. refl };
+
+    ghost surely = { λ e n h. absurd h };
+}
+
+impl<'a> PartsEncoder<Account<'a>, AccountPart1> for AccountPart1Encoder {
     fn encode_part_in_each<S, W: Part<S, Account<'a>>>(
         &mut self,
         items: &[S],
         which: &W,
     ) -> Result<(), Error> {
-        PartEncoder::<Account<'a>, Numbers1>::encode_part_in_each(&mut self.fields, items, which)
+        PartsEncoder::<Account<'a>, Numbers1>::encode_part_in_each(&mut self.fields, items, which)
     }
 
     ghost of_shape = { λ e. refl };
@@ -804,17 +798,21 @@ pub struct AccountPart2Encoder {
     fields: Held2,
 }
 
-impl Buffer for AccountPart2Encoder {
-    ghost columns = { λ e. ⟦<Held2 as Buffer>⟧.columns e.fields };
+impl HoldsColumns for AccountPart2Encoder {
+    ghost columns = { λ e. ⟦<Held2 as HoldsColumns>⟧.columns e.fields };
 
-    ghost room = { λ e. ⟦<Held2 as Buffer>⟧.room e.fields };
+    ghost room = { λ e. ⟦<Held2 as HoldsColumns>⟧.room e.fields };
 
-    ghost capacity = { λ e. ⟦<Held2 as Buffer>⟧.capacity e.fields };
+    ghost capacity = { λ e. ⟦<Held2 as HoldsColumns>⟧.capacity e.fields };
 
     ghost surely_overflows = { λ e n. ⊥ };
 
-    ghost overflows = { λ e n. ⟦<Held2 as Buffer>⟧.overflows e.fields n };
+    ghost overflows = { λ e n. ⟦<Held2 as HoldsColumns>⟧.overflows e.fields n };
 
+    ghost writes_free = { ⟦<Held2 as HoldsColumns>⟧.writes_free };
+}
+
+impl Buffer for AccountPart2Encoder {
     fn new(alloc: Global) -> Self {
         AccountPart2Encoder {
             fields: Buffer::new(alloc),
@@ -834,7 +832,7 @@ impl Buffer for AccountPart2Encoder {
     }
 }
 
-impl<'a> PartEncoder<Account<'a>, AccountPart2> for AccountPart2Encoder {
+impl<'a> PartOf<Account<'a>> for AccountPart2 {
     ghost shape = { ⟦<Pairs2 as Shaped>⟧.data.shape };
 
     ghost lists = { lists_both (lists_both (λ t d. ⟦<(i32, i32) as Shaped>⟧.data.lists t.position d)
@@ -843,20 +841,9 @@ impl<'a> PartEncoder<Account<'a>, AccountPart2> for AccountPart2Encoder {
         (lists_both (λ t d. ⟦<u16 as Shaped>⟧.data.lists t.friends d)
         (lists_both (λ t d. ⟦<u128 as Shaped>⟧.data.lists t.checksum d)
         (λ t d. ⟦<u8 as Shaped>⟧.data.lists t.rank d))) };
+}
 
-    ghost columns = { ⟦<AccountPart2Encoder as Buffer>⟧.columns };
-
-    ghost room = { ⟦<AccountPart2Encoder as Buffer>⟧.room };
-
-    ghost surely_overflows = { ⟦<AccountPart2Encoder as Buffer>⟧.surely_overflows };
-
-    ghost writes_free = { ((⟦<<(i32, i32) as HasEncoder>::Encoder as Encoder<(i32, i32)>>⟧.writes_free
-        && (⟦<<Option<Trophy> as HasEncoder>::Encoder as Encoder<Option<Trophy>>>⟧.writes_free &&
-        ⟦<<u32 as HasEncoder>::Encoder as Encoder<u32>>⟧.writes_free)) &&
-        (⟦<<u16 as HasEncoder>::Encoder as Encoder<u16>>⟧.writes_free &&
-        (⟦<<u128 as HasEncoder>::Encoder as Encoder<u128>>⟧.writes_free &&
-        ⟦<<u8 as HasEncoder>::Encoder as Encoder<u8>>⟧.writes_free))) };
-
+impl<'a> PartEncoder<Account<'a>, AccountPart2> for AccountPart2Encoder {
     fn encode_part(&mut self, whole: &Account<'a>) -> Result<(), Error> {
         PartEncoder::<Account<'a>, Numbers2>::encode_part(&mut self.fields, whole)
     }
@@ -865,12 +852,18 @@ impl<'a> PartEncoder<Account<'a>, AccountPart2> for AccountPart2Encoder {
         PartEncoder::<Account<'a>, Numbers2>::write_part(&mut self.fields, whole, out)
     }
 
+    ghost of_shape = { λ e. refl };
+
+    ghost surely = { λ e n h. absurd h };
+}
+
+impl<'a> PartsEncoder<Account<'a>, AccountPart2> for AccountPart2Encoder {
     fn encode_part_in_each<S, W: Part<S, Account<'a>>>(
         &mut self,
         items: &[S],
         which: &W,
     ) -> Result<(), Error> {
-        PartEncoder::<Account<'a>, Numbers2>::encode_part_in_each(&mut self.fields, items, which)
+        PartsEncoder::<Account<'a>, Numbers2>::encode_part_in_each(&mut self.fields, items, which)
     }
 
     ghost of_shape = { λ e. refl };
@@ -878,17 +871,12 @@ impl<'a> PartEncoder<Account<'a>, AccountPart2> for AccountPart2Encoder {
     ghost surely = { λ e n h. absurd h };
 }
 
-type Fields = TupleEncoder<
-    AccountPart0Encoder,
-    TupleEncoder<AccountPart1Encoder, AccountPart2Encoder>,
->;
-
-impl<'a> InFields<Fields> for Account<'a> {
+impl<'a> InFields for Account<'a> {
     type Numbers = (AccountPart0<'a>, (AccountPart1, AccountPart2));
 
-    type Inside = AccountInside<'a>;
+    type Inside = Parts<'a>;
 
-    ghost same_columns = { columns_alike refl };
+    ghost same_columns = { refl };
 
     ghost of_fields = { λ d h. h };
 
@@ -900,7 +888,9 @@ impl<'a> InFields<Fields> for Account<'a> {
         (pair_alike field_alike (pair_alike field_alike field_alike)))) };
 }
 
-type Held = StructEncoder<Fields>;
+type Held = StructEncoder<
+    TupleEncoder<AccountPart0Encoder, TupleEncoder<AccountPart1Encoder, AccountPart2Encoder>>,
+>;
 
 /// The columns of `Account`.
 #[derive(Drop)]
@@ -908,17 +898,21 @@ pub struct AccountEncoder {
     fields: Held,
 }
 
-impl Buffer for AccountEncoder {
-    ghost columns = { λ e. ⟦<Held as Buffer>⟧.columns e.fields };
+impl HoldsColumns for AccountEncoder {
+    ghost columns = { λ e. ⟦<Held as HoldsColumns>⟧.columns e.fields };
 
-    ghost room = { λ e. ⟦<Held as Buffer>⟧.room e.fields };
+    ghost room = { λ e. ⟦<Held as HoldsColumns>⟧.room e.fields };
 
-    ghost capacity = { λ e. ⟦<Held as Buffer>⟧.capacity e.fields };
+    ghost capacity = { λ e. ⟦<Held as HoldsColumns>⟧.capacity e.fields };
 
     ghost surely_overflows = { λ e n. ⊥ };
 
-    ghost overflows = { λ e n. ⟦<Held as Buffer>⟧.overflows e.fields n };
+    ghost overflows = { λ e n. ⟦<Held as HoldsColumns>⟧.overflows e.fields n };
 
+    ghost writes_free = { ⟦<Held as HoldsColumns>⟧.writes_free };
+}
+
+impl Buffer for AccountEncoder {
     fn new(alloc: Global) -> Self {
         AccountEncoder {
             fields: Buffer::new(alloc),
@@ -939,10 +933,6 @@ impl Buffer for AccountEncoder {
 }
 
 impl<'a> Encoder<Account<'a>> for AccountEncoder {
-    ghost writes_free = { (⟦<AccountPart0Encoder as PartEncoder<Account<'a>, AccountPart0<'a>>>⟧.writes_free
-        && (⟦<AccountPart1Encoder as PartEncoder<Account<'a>, AccountPart1>>⟧.writes_free &&
-        ⟦<AccountPart2Encoder as PartEncoder<Account<'a>, AccountPart2>>⟧.writes_free)) };
-
     fn encode(&mut self, t: &Account<'a>) -> Result<(), Error> {
         Encoder::<Account<'a>>::encode(&mut self.fields, t)
     }
@@ -965,6 +955,10 @@ impl<'a> EncodeMany<Account<'a>> for AccountEncoder {
     ) -> Result<(), Error> {
         EncodeMany::<Account<'a>>::encode_part_of_each(&mut self.fields, items, which, first)
     }
+
+    ghost of_shape = { λ e. refl };
+
+    ghost surely = { λ e n h. absurd h };
 }
 
 impl<'a> HasEncoder for Account<'a> {

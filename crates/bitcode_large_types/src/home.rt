@@ -1,9 +1,9 @@
 //! `Home` corresponds to the tuple of its fields. What is below its declaration was written by `scripts/new_type`.
 ghost use Rattle.std.specs.Prelude.{◌∷◌};
-ghost use Rattle.bitcode.specs.ByHand.{[], ands_in_order, columns_alike, data_as, field_alike, key_as, pair_alike};
-ghost use Rattle.bitcode.specs.ByHand.{refl, thens_in_order};
+ghost use Rattle.bitcode.specs.ByHand.{[], ands_in_order, data_as, field_alike, key_as, pair_alike, refl};
+ghost use Rattle.bitcode.specs.ByHand.{thens_in_order};
 
-use bitcode::own::{DecoderOfFields, HasField, InFields, Nth, StructEncoder};
+use bitcode::own::{DecoderOfFields, HasField, InFields, Nth};
 use bitcode::{ConvertFrom, DecodeOwned, Error, HasDecoder, HasEncoder, Key, Shaped};
 use std::alloc::Global;
 
@@ -73,14 +73,12 @@ impl HasField<2> for Home {
     }
 }
 
-type Fields = <(u8, (u16, u16)) as HasEncoder>::Encoder;
-
-impl InFields<Fields> for Home {
+impl InFields for Home {
     type Numbers = (Nth<0>, (Nth<1>, Nth<2>));
 
-    type Inside = <Home as HasDecoder<'static>>::Decoder;
+    type Inside = (u8, u16, u16);
 
-    ghost same_columns = { columns_alike refl };
+    ghost same_columns = { refl };
 
     ghost of_fields = { λ d h. h };
 
@@ -88,7 +86,7 @@ impl InFields<Fields> for Home {
 }
 
 impl HasEncoder for Home {
-    type Encoder = StructEncoder<Fields>;
+    type Encoder = <(u8, u16, u16) as HasEncoder>::Encoder;
 }
 
 impl<'a> HasDecoder<'a> for Home {

@@ -1,9 +1,9 @@
 //! `Trophy` corresponds to the tuple of its fields. What is below its declaration was written by `scripts/new_type`.
-ghost use Rattle.std.specs.Prelude.{◌&&◌, IfSome};
-ghost use Rattle.bitcode.specs.ByHand.{ReadsValue, columns_alike, data_as, field_alike, pair_alike, refl};
+ghost use Rattle.std.specs.Prelude.{IfSome};
+ghost use Rattle.bitcode.specs.ByHand.{ReadsValue, data_as, field_alike, pair_alike, refl};
 
 use bitcode::coder::{
-    Buffer, ColumnFree, Decoder, EncodeMany, Encoder, HoldsData, NewDecoder, View,
+    Buffer, ColumnFree, Decoder, EncodeMany, Encoder, HoldsColumns, HoldsData, NewDecoder, View,
 };
 use bitcode::own::{DecoderOfFields, HasField, InFields, Nth, Part, StructEncoder};
 use bitcode::{ConvertFrom, DecodeOwned, Error, HasDecoder, HasEncoder, Shaped};
@@ -15,9 +15,6 @@ pub struct Trophy {
     pub title: String,
     pub year: u16,
 }
-
-/// Names the types of all that is inside `Trophy`.
-pub type TrophyInside = ((String, u16),);
 
 impl Shaped for Trophy {
     ghost data = { data_as (λ t. (t.title, t.year))
@@ -58,21 +55,19 @@ impl HasField<1> for Trophy {
     }
 }
 
-type Fields = <(String, u16) as HasEncoder>::Encoder;
-
-impl InFields<Fields> for Trophy {
+impl InFields for Trophy {
     type Numbers = (Nth<0>, Nth<1>);
 
-    type Inside = TrophyInside;
+    type Inside = (String, u16);
 
-    ghost same_columns = { columns_alike refl };
+    ghost same_columns = { refl };
 
     ghost of_fields = { λ d h. h };
 
     ghost same_listings = { λ t. pair_alike field_alike field_alike };
 }
 
-type Held = StructEncoder<Fields>;
+type Held = StructEncoder<<(String, u16) as HasEncoder>::Encoder>;
 
 /// The columns of `Trophy`.
 #[derive(Drop)]
@@ -80,17 +75,21 @@ pub struct TrophyEncoder {
     fields: Held,
 }
 
-impl Buffer for TrophyEncoder {
-    ghost columns = { λ e. ⟦<Held as Buffer>⟧.columns e.fields };
+impl HoldsColumns for TrophyEncoder {
+    ghost columns = { λ e. ⟦<Held as HoldsColumns>⟧.columns e.fields };
 
-    ghost room = { λ e. ⟦<Held as Buffer>⟧.room e.fields };
+    ghost room = { λ e. ⟦<Held as HoldsColumns>⟧.room e.fields };
 
-    ghost capacity = { λ e. ⟦<Held as Buffer>⟧.capacity e.fields };
+    ghost capacity = { λ e. ⟦<Held as HoldsColumns>⟧.capacity e.fields };
 
     ghost surely_overflows = { λ e n. ⊥ };
 
-    ghost overflows = { λ e n. ⟦<Held as Buffer>⟧.overflows e.fields n };
+    ghost overflows = { λ e n. ⟦<Held as HoldsColumns>⟧.overflows e.fields n };
 
+    ghost writes_free = { ⟦<Held as HoldsColumns>⟧.writes_free };
+}
+
+impl Buffer for TrophyEncoder {
     fn new(alloc: Global) -> Self {
         TrophyEncoder {
             fields: Buffer::new(alloc),
@@ -111,9 +110,6 @@ impl Buffer for TrophyEncoder {
 }
 
 impl Encoder<Trophy> for TrophyEncoder {
-    ghost writes_free = { (⟦<<String as HasEncoder>::Encoder as Encoder<String>>⟧.writes_free &&
-        ⟦<<u16 as HasEncoder>::Encoder as Encoder<u16>>⟧.writes_free) };
-
     fn encode(&mut self, t: &Trophy) -> Result<(), Error> {
         Encoder::<Trophy>::encode(&mut self.fields, t)
     }
@@ -136,6 +132,10 @@ impl EncodeMany<Trophy> for TrophyEncoder {
     ) -> Result<(), Error> {
         EncodeMany::<Trophy>::encode_part_of_each(&mut self.fields, items, which, first)
     }
+
+    ghost of_shape = { λ e. refl };
+
+    ghost surely = { λ e n h. absurd h };
 }
 
 impl HasEncoder for Trophy {

@@ -1,8 +1,8 @@
 //! `Chest` corresponds to the tuple of its fields. What is below its declaration was written by `scripts/new_type`.
-ghost use Rattle.bitcode.specs.ByHand.{columns_alike, data_as, field_alike, pair_alike, refl};
+ghost use Rattle.bitcode.specs.ByHand.{data_as, field_alike, pair_alike, refl};
 
 use crate::item::Item;
-use bitcode::own::{DecoderOfFields, HasField, InFields, Nth, StructEncoder};
+use bitcode::own::{DecoderOfFields, HasField, InFields, Nth};
 use bitcode::{ConvertFrom, DecodeOwned, Error, HasDecoder, HasEncoder, Shaped};
 use std::alloc::Global;
 
@@ -67,14 +67,12 @@ impl HasField<2> for Chest {
     }
 }
 
-type Fields = <(String, (Vec<Item>, Option<Item>)) as HasEncoder>::Encoder;
-
-impl InFields<Fields> for Chest {
+impl InFields for Chest {
     type Numbers = (Nth<0>, (Nth<1>, Nth<2>));
 
-    type Inside = <Chest as HasDecoder<'static>>::Decoder;
+    type Inside = (String, Vec<Item>, Option<Item>);
 
-    ghost same_columns = { columns_alike refl };
+    ghost same_columns = { refl };
 
     ghost of_fields = { λ d h. h };
 
@@ -82,7 +80,7 @@ impl InFields<Fields> for Chest {
 }
 
 impl HasEncoder for Chest {
-    type Encoder = StructEncoder<Fields>;
+    type Encoder = <(String, Vec<Item>, Option<Item>) as HasEncoder>::Encoder;
 }
 
 impl<'a> HasDecoder<'a> for Chest {

@@ -1,8 +1,8 @@
 //! `Dated` corresponds to the tuple of its fields. What is below its declaration was written by `scripts/new_type`.
-ghost use Rattle.bitcode.specs.ByHand.{columns_alike, data_as, field_alike, pair_alike, refl};
+ghost use Rattle.bitcode.specs.ByHand.{data_as, field_alike, pair_alike, refl};
 
-use bitcode::own::{DecoderOfFields, HasField, InFields, Nth, StructEncoder};
-use bitcode::{ConvertFrom, DecodeOwned, Encode, Error, HasDecoder, HasEncoder, Shaped};
+use bitcode::own::{DecoderOfFields, HasField, InFields, Nth};
+use bitcode::{ConvertFrom, DecodeOwned, Error, HasDecoder, HasEncoder, Shaped};
 use std::alloc::Global;
 
 /// A value and when it was made.
@@ -63,14 +63,12 @@ impl<T: Shaped> HasField<2> for Dated<T> {
     }
 }
 
-type Fields<T> = <(u16, (u16, T)) as HasEncoder>::Encoder;
-
-impl<T: Encode> InFields<Fields<T>> for Dated<T> {
+impl<T: Shaped> InFields for Dated<T> {
     type Numbers = (Nth<0>, (Nth<1>, Nth<2>));
 
     type Inside = (u16, u16, T);
 
-    ghost same_columns = { columns_alike refl };
+    ghost same_columns = { refl };
 
     ghost of_fields = { λ d h. h };
 
@@ -78,7 +76,7 @@ impl<T: Encode> InFields<Fields<T>> for Dated<T> {
 }
 
 impl<T: HasEncoder> HasEncoder for Dated<T> {
-    type Encoder = StructEncoder<Fields<T>>;
+    type Encoder = <(u16, u16, T) as HasEncoder>::Encoder;
 }
 
 impl<'a, T: HasDecoder<'a>> HasDecoder<'a> for Dated<T> {

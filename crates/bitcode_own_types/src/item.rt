@@ -1,5 +1,5 @@
 //! `Item` corresponds to the tuple of its fields. What is below its declaration was written by `scripts/new_type`.
-ghost use Rattle.bitcode.specs.ByHand.{columns_alike, data_as, field_alike, pair_alike, refl};
+ghost use Rattle.bitcode.specs.ByHand.{data_as, field_alike, pair_alike, refl};
 
 use bitcode::own::{DecoderOfFields, HasField, InFields, Nth, StructEncoder};
 use bitcode::{ConvertFrom, DecodeOwned, Error, HasDecoder, HasEncoder, Shaped};
@@ -51,14 +51,12 @@ impl HasField<1> for Item {
     }
 }
 
-type Fields = <(String, u8) as HasEncoder>::Encoder;
-
-impl InFields<Fields> for Item {
+impl InFields for Item {
     type Numbers = (Nth<0>, Nth<1>);
 
-    type Inside = <Item as HasDecoder<'static>>::Decoder;
+    type Inside = (String, u8);
 
-    ghost same_columns = { columns_alike refl };
+    ghost same_columns = { refl };
 
     ghost of_fields = { λ d h. h };
 
@@ -66,7 +64,7 @@ impl InFields<Fields> for Item {
 }
 
 impl HasEncoder for Item {
-    type Encoder = StructEncoder<Fields>;
+    type Encoder = StructEncoder<<(String, u8) as HasEncoder>::Encoder>;
 }
 
 impl<'a> HasDecoder<'a> for Item {

@@ -1,5 +1,5 @@
 //! `Message` corresponds to the tuple of its fields. What is below its declaration was written by `scripts/new_type`.
-ghost use Rattle.bitcode.specs.ByHand.{columns_alike, data_as, field_alike, pair_alike, refl};
+ghost use Rattle.bitcode.specs.ByHand.{data_as, field_alike, pair_alike, refl};
 
 use bitcode::own::{DecoderOfFields, HasField, InFields, Nth, StructEncoder};
 use bitcode::{ConvertFrom, Error, HasDecoder, HasEncoder, Shaped};
@@ -50,14 +50,12 @@ impl<'a> HasField<1> for Message<'a> {
     }
 }
 
-type Fields<'a> = <(u32, &'a str) as HasEncoder>::Encoder;
-
-impl<'a> InFields<Fields<'a>> for Message<'a> {
+impl<'a> InFields for Message<'a> {
     type Numbers = (Nth<0>, Nth<1>);
 
-    type Inside = <Message<'a> as HasDecoder<'a>>::Decoder;
+    type Inside = (u32, &'a str);
 
-    ghost same_columns = { columns_alike refl };
+    ghost same_columns = { refl };
 
     ghost of_fields = { λ d h. h };
 
@@ -65,7 +63,7 @@ impl<'a> InFields<Fields<'a>> for Message<'a> {
 }
 
 impl<'a> HasEncoder for Message<'a> {
-    type Encoder = StructEncoder<Fields<'a>>;
+    type Encoder = StructEncoder<<(u32, &'a str) as HasEncoder>::Encoder>;
 }
 
 impl<'a> HasDecoder<'a> for Message<'a> {

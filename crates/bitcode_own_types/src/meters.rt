@@ -1,5 +1,5 @@
 //! `Meters` corresponds to the tuple of its fields. What is below its declaration was written by `scripts/new_type`.
-ghost use Rattle.bitcode.specs.ByHand.{columns_alike, data_as, field_alike, refl};
+ghost use Rattle.bitcode.specs.ByHand.{data_as, field_alike, refl};
 
 use bitcode::own::{DecoderOfFields, HasField, InFields, Nth, StructEncoder};
 use bitcode::{ConvertFrom, DecodeOwned, Error, HasDecoder, HasEncoder, Shaped};
@@ -36,14 +36,12 @@ impl HasField<0> for Meters {
     }
 }
 
-type Fields = <u32 as HasEncoder>::Encoder;
-
-impl InFields<Fields> for Meters {
+impl InFields for Meters {
     type Numbers = Nth<0>;
 
-    type Inside = <Meters as HasDecoder<'static>>::Decoder;
+    type Inside = u32;
 
-    ghost same_columns = { columns_alike refl };
+    ghost same_columns = { refl };
 
     ghost of_fields = { λ d h. h };
 
@@ -51,7 +49,7 @@ impl InFields<Fields> for Meters {
 }
 
 impl HasEncoder for Meters {
-    type Encoder = StructEncoder<Fields>;
+    type Encoder = StructEncoder<<u32 as HasEncoder>::Encoder>;
 }
 
 impl<'a> HasDecoder<'a> for Meters {

@@ -76,11 +76,12 @@ impl<T: Shaped> Variants3<At<0>, At<3>, T, Vec<T>, ()> for Msg<T> {
     ) };
 }
 
-impl<T: Shaped, E1: Encoder<T>, E2: Encoder<Vec<T>>, E3: Encoder<()>> WritesVariants<
-    At<0>,
-    At<3>,
-    Encoders3<At<0>, E1, E2, E3>,
-> for Msg<T> {
+impl<
+    T: Shaped,
+    E1: Buffer + Encoder<T>,
+    E2: Buffer + Encoder<Vec<T>>,
+    E3: Buffer + Encoder<()>,
+> WritesVariants<At<0>, At<3>, Encoders3<At<0>, E1, E2, E3>> for Msg<T> {
     fn write(&self, to: &mut Encoders3<At<0>, E1, E2, E3>) -> Result<(), Error> {
         match self {
             Msg::One(a) => to.encode_first(self, &a),
@@ -121,11 +122,12 @@ impl<E1: Buffer, E2: Buffer, E3: Buffer> VariantColumns for MsgColumns<E1, E2, E
     }
 }
 
-impl<T: Shaped, E1: Encoder<T>, E2: Encoder<Vec<T>>, E3: Encoder<()>> WritesVariants<
-    At<0>,
-    At<3>,
-    MsgColumns<E1, E2, E3>,
-> for Msg<T> {
+impl<
+    T: Shaped,
+    E1: Buffer + Encoder<T>,
+    E2: Buffer + Encoder<Vec<T>>,
+    E3: Buffer + Encoder<()>,
+> WritesVariants<At<0>, At<3>, MsgColumns<E1, E2, E3>> for Msg<T> {
     fn write(&self, to: &mut MsgColumns<E1, E2, E3>) -> Result<(), Error> {
         WritesVariants::<At<0>, At<3>, Encoders3<At<0>, E1, E2, E3>>::write(self, &mut to.all)
     }

@@ -1,6 +1,6 @@
 //! `One` corresponds to the tuple of its variant's fields. What is below its declaration was written by
 //! `scripts/new_type`.
-ghost use Rattle.bitcode.specs.ByHand.{columns_alike, data_as, field_alike, refl};
+ghost use Rattle.bitcode.specs.ByHand.{data_as, field_alike, refl};
 
 use bitcode::own::{DecoderOfFields, HasField, InFields, Nth, StructEncoder};
 use bitcode::{ConvertFrom, DecodeOwned, Error, HasDecoder, HasEncoder, Shaped};
@@ -45,14 +45,12 @@ impl HasField<0> for One {
     }
 }
 
-type Fields = <u8 as HasEncoder>::Encoder;
-
-impl InFields<Fields> for One {
+impl InFields for One {
     type Numbers = Nth<0>;
 
-    type Inside = <One as HasDecoder<'static>>::Decoder;
+    type Inside = u8;
 
-    ghost same_columns = { columns_alike refl };
+    ghost same_columns = { refl };
 
     ghost of_fields = { λ d h. h };
 
@@ -60,7 +58,7 @@ impl InFields<Fields> for One {
 }
 
 impl HasEncoder for One {
-    type Encoder = StructEncoder<Fields>;
+    type Encoder = StructEncoder<<u8 as HasEncoder>::Encoder>;
 }
 
 impl<'a> HasDecoder<'a> for One {

@@ -1,5 +1,5 @@
 //! `Pause` corresponds to the tuple of its fields. What is below its declaration was written by `scripts/new_type`.
-ghost use Rattle.bitcode.specs.ByHand.{columns_alike, data_as, field_alike, refl};
+ghost use Rattle.bitcode.specs.ByHand.{data_as, field_alike, refl};
 
 use bitcode::own::{DecoderOfFields, InFields, StructEncoder};
 use bitcode::{ConvertFrom, DecodeOwned, Error, HasDecoder, HasEncoder, Shaped};
@@ -23,14 +23,12 @@ impl ConvertFrom<()> for Pause {
     ghost same_shape = { refl };
 }
 
-type Fields = <() as HasEncoder>::Encoder;
-
-impl InFields<Fields> for Pause {
+impl InFields for Pause {
     type Numbers = ();
 
-    type Inside = <Pause as HasDecoder<'static>>::Decoder;
+    type Inside = ();
 
-    ghost same_columns = { columns_alike refl };
+    ghost same_columns = { refl };
 
     ghost of_fields = { λ d h. h };
 
@@ -38,7 +36,7 @@ impl InFields<Fields> for Pause {
 }
 
 impl HasEncoder for Pause {
-    type Encoder = StructEncoder<Fields>;
+    type Encoder = StructEncoder<<() as HasEncoder>::Encoder>;
 }
 
 impl<'a> HasDecoder<'a> for Pause {

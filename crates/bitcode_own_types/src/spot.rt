@@ -1,5 +1,5 @@
 //! `Spot` corresponds to the tuple of its fields. What is below its declaration was written by `scripts/new_type`.
-ghost use Rattle.bitcode.specs.ByHand.{columns_alike, data_as, field_alike, pair_alike, refl};
+ghost use Rattle.bitcode.specs.ByHand.{data_as, field_alike, pair_alike, refl};
 
 use bitcode::own::{DecoderOfFields, HasField, InFields, Nth, StructEncoder};
 use bitcode::{ConvertFrom, DecodeOwned, Error, HasDecoder, HasEncoder, Key, Shaped};
@@ -50,14 +50,12 @@ impl HasField<1> for Spot {
     }
 }
 
-type Fields = <(u32, u32) as HasEncoder>::Encoder;
-
-impl InFields<Fields> for Spot {
+impl InFields for Spot {
     type Numbers = (Nth<0>, Nth<1>);
 
-    type Inside = <Spot as HasDecoder<'static>>::Decoder;
+    type Inside = (u32, u32);
 
-    ghost same_columns = { columns_alike refl };
+    ghost same_columns = { refl };
 
     ghost of_fields = { λ d h. h };
 
@@ -65,7 +63,7 @@ impl InFields<Fields> for Spot {
 }
 
 impl HasEncoder for Spot {
-    type Encoder = StructEncoder<Fields>;
+    type Encoder = StructEncoder<<(u32, u32) as HasEncoder>::Encoder>;
 }
 
 impl<'a> HasDecoder<'a> for Spot {

@@ -1,4 +1,5 @@
--- The keys and the values of pairs that were taken from the front of a map's.
+-- The keys and the values of pairs that were taken from the front of a map's, and elements that were taken from the front
+-- of others.
 use Rattle.std.proofs.Common.{◌≡◌, ◌+◌, List, [], ◌∷◌, ◌++◌, length, map, All, Bor, ap, ◌∙◌, subst, length-append}
 use Rattle.std.specs.Map.{keys_of, values_of}
 use Rattle.std.specs.Map.Iter.{deref_pair}
@@ -9,6 +10,13 @@ use Rattle.std.proofs.lemmas.Simd.{map-map}
 pub all_behind : {X : Type 0} (P : X → Type 0) (front rest : List X) → All P (front ++ rest) → All P rest
 all_behind P [] rest each = each
 all_behind P (x ∷ front) rest each = all_behind P front rest (All-tail P x (front ++ rest) each)
+
+module _ {X : Type 0} (left rest : List X) (several : List (Bor X)) (taken : left ≡ map (λ item. item.now) several ++ rest) where
+  pub many_left : length left ≡ length several + length rest
+  many_left = ap length taken ∙ length-append (map (λ item. item.now) several) rest ∙ ap (λ n. n + length rest) (length-map several (λ item. item.now))
+
+  pub all_taken : (P : X → Type 0) → All P left → All P rest
+  all_taken P each = all_behind P (map (λ item. item.now) several) rest (subst (All P) taken each)
 
 module _ {K X : Type 0} (left rest : List (K × X)) (pairs : List (Bor K × Bor X)) (taken : left ≡ map deref_pair pairs ++ rest) where
   pub keys_taken : keys_of left ≡ map (λ pair. pair.0.now) pairs ++ keys_of rest

@@ -13,8 +13,11 @@ ghost use Rattle.bitcode_parts.specs.Arrays.{array_room, ArraysOverflow, arrays_
 ghost use Rattle.bitcode_parts.specs.ArrayLaws.{arrays_of_shape, arrays_overflow, same_array_shape};
 
 use crate::lists::sequence::{decode_each, encode_each};
-use bitcode_coder::coder::{Buffer, Decoder, EncodeMany, Encoder, HoldsData, NewDecoder, View};
+use bitcode_coder::coder::{
+    Buffer, Decoder, EncodeMany, Encoder, HoldsColumns, HoldsData, NewDecoder, View, encode_parts,
+};
 use bitcode_coder::column_free::ColumnFree;
+use bitcode_coder::part::Part;
 use bitcode_memory::consume::mul_length;
 use bitcode_memory::error::{Error, Reason};
 use bitcode_memory::refuse::err;
@@ -42,7 +45,7 @@ pub struct ArrayEncoder<E, const N: usize> {
     ghost uncounted: { N ≡ 0 → count ≡ 0 },
 }
 
-impl<E: Buffer, const N: usize> Buffer for ArrayEncoder<E, N> {
+impl<E: HoldsColumns, const N: usize> HoldsColumns for ArrayEncoder<E, N> {
     ghost columns = { λ e. array_columns N e.count (E.columns e.elements) };
 
     ghost room = { λ e. array_room N e.count (E.room e.elements) };
@@ -53,6 +56,10 @@ impl<E: Buffer, const N: usize> Buffer for ArrayEncoder<E, N> {
 
     ghost overflows = { λ e n. ArraysOverflow N E.overflows e.elements e.count n };
 
+    ghost writes_free = { E.writes_free || N == 0 };
+}
+
+impl<E: Buffer, const N: usize> Buffer for ArrayEncoder<E, N> {
     fn new(alloc: Global) -> Self {
         ArrayEncoder {
             elements: E::new(alloc),
@@ -94,18 +101,12 @@ impl<E: Buffer, const N: usize> Buffer for ArrayEncoder<E, N> {
 }
 
 impl<T: Shaped, E: EncodeMany<T>, const N: usize> Encoder<[T; N]> for ArrayEncoder<E, N> {
-    ghost writes_free = { E.writes_free || N == 0 };
-
     fn encode(&mut self, t: &[T; N]) -> Result<(), Error> {
         encode_each(&mut self.elements, t.as_slice())?;
         if N > 0 {
             self.count += 1;
         }
         Ok(())
-    }
-
-    fn is_primitive() -> bool {
-        false
     }
 
     ghost of_shape = { λ e. arrays_of_shape N e.count T.data.shape (E.columns e.elements)
@@ -115,7 +116,26 @@ impl<T: Shaped, E: EncodeMany<T>, const N: usize> Encoder<[T; N]> for ArrayEncod
         (E.surely e.elements (n * N)) };
 }
 
-impl<T: Shaped, E: EncodeMany<T>, const N: usize> EncodeMany<[T; N]> for ArrayEncoder<E, N> {}
+impl<T: Shaped, E: EncodeMany<T>, const N: usize> EncodeMany<[T; N]> for ArrayEncoder<E, N> {
+    fn is_primitive() -> bool {
+        false
+    }
+
+    fn encode_part_of_each<S, W: Part<S, [T; N]>>(
+        &mut self,
+        items: &[S],
+        which: &W,
+        _first: &[T; N],
+    ) -> Result<(), Error> {
+        encode_parts(self, items, which)
+    }
+
+    ghost of_shape = { λ e. arrays_of_shape N e.count T.data.shape (E.columns e.elements)
+        (E.of_shape e.elements) };
+
+    ghost surely = { λ e n. arrays_overflow T.data.shape (E.columns e.elements) n N e.count
+        (E.surely e.elements (n * N)) };
+}
 
 /// The decoder of arrays of `N` elements. It reads the elements of all arrays.
 ///

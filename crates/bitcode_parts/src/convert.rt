@@ -4,8 +4,11 @@ ghost use Rattle.std.proofs.Common.{sym, ◌∙◌};
 ghost use Rattle.bitcode_coder.specs.Coder.{ListsAsToo, MakesToo};
 ghost use Rattle.bitcode_parts.specs.Convert.{IsWrittenAs, surely_as};
 
-use bitcode_coder::coder::{Buffer, Decoder, EncodeMany, Encoder, HoldsData, NewDecoder, View};
+use bitcode_coder::coder::{
+    Buffer, Decoder, EncodeMany, Encoder, HoldsColumns, HoldsData, NewDecoder, View, encode_parts,
+};
 use bitcode_coder::column_free::ColumnFree;
+use bitcode_coder::part::Part;
 use bitcode_memory::error::{Error, Reason};
 use bitcode_shapes::shaped::Shaped;
 use std::alloc::Global;
@@ -75,7 +78,7 @@ pub struct ConvertIntoEncoder<T, E> {
     of: PhantomData<T>,
 }
 
-impl<T: Drop, E: Buffer> Buffer for ConvertIntoEncoder<T, E> {
+impl<T: Drop, E: HoldsColumns> HoldsColumns for ConvertIntoEncoder<T, E> {
     ghost columns = { λ e. E.columns e.inner };
 
     ghost room = { λ e. E.room e.inner };
@@ -86,6 +89,10 @@ impl<T: Drop, E: Buffer> Buffer for ConvertIntoEncoder<T, E> {
 
     ghost overflows = { λ e n. E.overflows e.inner n };
 
+    ghost writes_free = { E.writes_free };
+}
+
+impl<T: Drop, E: Buffer> Buffer for ConvertIntoEncoder<T, E> {
     fn new(alloc: Global) -> Self {
         ConvertIntoEncoder {
             inner: E::new(alloc),
@@ -107,8 +114,6 @@ impl<T: Drop, E: Buffer> Buffer for ConvertIntoEncoder<T, E> {
 }
 
 impl<T: Shaped + Drop, D: ConvertInto<T>, E: Encoder<T>> Encoder<D> for ConvertIntoEncoder<T, E> {
-    ghost writes_free = { E.writes_free };
-
     fn encode(&mut self, t: &D) -> Result<(), Error> {
         self.inner.encode(&t.convert_into())
     }
@@ -120,7 +125,21 @@ impl<T: Shaped + Drop, D: ConvertInto<T>, E: Encoder<T>> Encoder<D> for ConvertI
 }
 
 impl<T: Shaped + Drop, D: ConvertInto<T>, E: Encoder<T>> EncodeMany<D>
-    for ConvertIntoEncoder<T, E> {}
+    for ConvertIntoEncoder<T, E> {
+    fn encode_part_of_each<S, W: Part<S, D>>(
+        &mut self,
+        items: &[S],
+        which: &W,
+        _first: &D,
+    ) -> Result<(), Error> {
+        encode_parts(self, items, which)
+    }
+
+    ghost of_shape = { λ e. E.of_shape e.inner ∙ sym (D.written_as.columns []) };
+
+    ghost surely = { λ e n h. surely_as D.data.shape T.data.shape D.written_as (E.columns e.inner) n
+        (E.surely e.inner n h) };
+}
 
 /// The data of values that are made from values of `T`, with the decoder `D` of `T`.
 ///

@@ -5,8 +5,11 @@ ghost use Rattle.bitcode_shapes.specs.Shape.{unit_shape};
 ghost use Rattle.bitcode_coder.specs.Columns.{no_columns};
 ghost use Rattle.bitcode_coder.specs.Coder.{endless_room};
 
-use bitcode_coder::coder::{Buffer, Decoder, EncodeMany, Encoder, HoldsData, NewDecoder, View};
+use bitcode_coder::coder::{
+    Buffer, Decoder, EncodeMany, Encoder, HoldsColumns, HoldsData, NewDecoder, View, encode_parts,
+};
 use bitcode_coder::column_free::ColumnFree;
+use bitcode_coder::part::Part;
 use bitcode_memory::error::Error;
 use std::alloc::Global;
 
@@ -19,7 +22,7 @@ pub struct EmptyCoder {
     left: usize,
 }
 
-impl Buffer for EmptyCoder {
+impl HoldsColumns for EmptyCoder {
     ghost columns = { λ e. no_columns };
 
     ghost room = { λ e. endless_room };
@@ -30,6 +33,10 @@ impl Buffer for EmptyCoder {
 
     ghost overflows = { λ e n. ⊥ };
 
+    ghost writes_free = { true };
+}
+
+impl Buffer for EmptyCoder {
     fn new(alloc: Global) -> Self {
         NewDecoder::new(alloc)
     }
@@ -46,8 +53,6 @@ impl Buffer for EmptyCoder {
 }
 
 impl Encoder<()> for EmptyCoder {
-    ghost writes_free = { true };
-
     fn encode(&mut self, _t: &()) -> Result<(), Error> {
         Ok(())
     }
@@ -57,7 +62,20 @@ impl Encoder<()> for EmptyCoder {
     ghost surely = { λ e n h. absurd h };
 }
 
-impl EncodeMany<()> for EmptyCoder {}
+impl EncodeMany<()> for EmptyCoder {
+    fn encode_part_of_each<S, W: Part<S, ()>>(
+        &mut self,
+        items: &[S],
+        which: &W,
+        _first: &(),
+    ) -> Result<(), Error> {
+        encode_parts(self, items, which)
+    }
+
+    ghost of_shape = { λ e. refl };
+
+    ghost surely = { λ e n h. absurd h };
+}
 
 impl HoldsData for EmptyCoder {
     ghost shape = { unit_shape };

@@ -34,7 +34,7 @@ pub fn seal_into<T: HasEncoder + Shaped>(
     out: &mut Vec<u8>,
 ) -> Result<(), Error>
 where
-    T::Encoder: Encoder<T> + Drop,
+    T::Encoder: Buffer + Encoder<T> + Drop,
     ensures written { OnOk result
         (IsSealedBehind T.data.lists T.data.shape label t.now out.old.items out.new.items) }
     ensures unchanged { OnErr result (out.new.items ≡ out.old.items) }
@@ -57,7 +57,7 @@ where
 /// ```
 pub fn seal<T: HasEncoder + Shaped>(alloc: Global, label: Label, t: &T) -> Result<Vec<u8>, Error>
 where
-    T::Encoder: Encoder<T> + Drop,
+    T::Encoder: Buffer + Encoder<T> + Drop,
     ensures written { IfOk result
         (λ bytes. IsSealingOf T.data.lists T.data.shape label t.now bytes.items) }
     ensures refused { IfErr result

@@ -53,7 +53,7 @@ const FEW: usize = 16;
 
 // Makes room for an entry, and writes it.
 #[inline(always)]
-fn join<T: Shaped, E: Encoder<T>>(column: &mut E, entry: &T) -> Result<(), Error>
+fn join<T: Shaped, E: Buffer + Encoder<T>>(column: &mut E, entry: &T) -> Result<(), Error>
     ensures joined { OnOk result
         (JoinsListing T.data.lists T.data.shape entry.now (E.columns column.old)
         (E.columns column.new)) }
@@ -169,7 +169,7 @@ fn join_chunk<T: Case, E: EncodeMany<T>>(column: &mut E, values: &[Value]) -> Re
 
 // Makes room for a value of one case, and writes it.
 #[inline(always)]
-fn join_one<T: Case, E: Encoder<T>>(column: &mut E, value: &Value) -> Result<(), Error>
+fn join_one<T: Case, E: Buffer + Encoder<T>>(column: &mut E, value: &Value) -> Result<(), Error>
     requires { (e : E) (n : ℕ) → E.surely_overflows e n → ⊥ }
     ensures joined { OnOk result
         (E.columns column.new ≡ beside (E.columns column.old)
@@ -192,7 +192,10 @@ fn join_one<T: Case, E: Encoder<T>>(column: &mut E, value: &Value) -> Result<(),
 }
 
 // Makes room for values of one case, and writes them.
-fn join_each<T: Case, E: EncodeMany<T>>(column: &mut E, values: &[Value]) -> Result<(), Error>
+fn join_each<T: Case, E: Buffer + Encoder<T> + EncodeMany<T>>(
+    column: &mut E,
+    values: &[Value],
+) -> Result<(), Error>
     requires { (e : E) (n : ℕ) → E.surely_overflows e n → ⊥ }
     ensures joined { OnOk result
         (E.columns column.new ≡ beside (E.columns column.old)

@@ -10,7 +10,7 @@ use std::alloc::Global;
 /// The value is written as these bytes.
 pub fn encodes<T: HasEncoder + Shaped>(alloc: Global, t: &T, expected: &[u8]) -> Result<(), Got>
 where
-    T::Encoder: Encoder<T> + Drop,
+    T::Encoder: Buffer + Encoder<T> + Drop,
 {
     match encode(alloc, t) {
         Ok(bytes) if bytes.as_slice() == expected => Ok(()),
@@ -58,7 +58,7 @@ pub fn both_ways<'a, T: HasEncoder + HasDecoder<'a> + Shaped + Drop + PartialEq>
     bytes: &'a [u8],
 ) -> Result<(), Got>
 where
-    T::Encoder: Encoder<T> + Drop,
+    T::Encoder: Buffer + Encoder<T> + Drop,
     T::Decoder: NewDecoder + View<'a> + Decoder<T> + Drop,
 {
     encodes(alloc, &t, bytes)?;
@@ -73,7 +73,7 @@ pub fn holds<'a, T: HasEncoder + HasDecoder<'a> + Shaped + Drop + PartialEq>(
     refused: &[(&'a [u8], Reason)],
 ) -> Result<(), Got>
 where
-    T::Encoder: Encoder<T> + Drop,
+    T::Encoder: Buffer + Encoder<T> + Drop,
     T::Decoder: NewDecoder + View<'a> + Decoder<T> + Drop,
 {
     both_ways(alloc, t, bytes)?;
@@ -90,7 +90,7 @@ pub fn written_and_read<'a, T: HasEncoder + HasDecoder<'a> + DecodeOwned + Shape
     bytes: &'a [u8],
 ) -> Result<T, Got>
 where
-    T::Encoder: Encoder<T> + Drop,
+    T::Encoder: Buffer + Encoder<T> + Drop,
     T::Decoder: NewDecoder + View<'a> + Decoder<T> + Drop,
 {
     encodes(alloc, t, bytes)?;

@@ -9,28 +9,13 @@ use Rattle.bitcode_shapes.specs.Pairs.{ListsPair}
 use Rattle.bitcode_coder.specs.Columns.{Columns, CountsFit, beside, emptied}
 use Rattle.bitcode_coder.specs.Coder.{written_columns, SurelyOverflows}
 
--- The columns of the fields' encoder are the same for it as a `Buffer` and as a `PartEncoder`, and those of the struct's
--- shape are those of the fields' shape.
-pub record SameColumns {E : Type 0} (columns parts : E → Columns) (room room_of_parts : E → ℕ) (overflows parts_overflow : E → ℕ → Type 0) (s t : Shape) : Type 0 where
-  pub columns_are : columns ≡ parts
-  pub room_is : room ≡ room_of_parts
-  pub overflow : (e : E) (n : ℕ) → overflows e n → parts_overflow e n
-  pub of_shape : written_columns s ≡ written_columns t
+module _ (s t : Shape) (same : written_columns s ≡ written_columns t) (columns : Columns) where
+  pub struct_of_shape : emptied columns ≡ written_columns s [] → emptied columns ≡ written_columns t []
+  struct_of_shape of_shape = of_shape ∙ ap (λ of. of []) same
 
-pub columns_alike : {E : Type 0} {columns : E → Columns} {room : E → ℕ} {overflows : E → ℕ → Type 0} {s t : Shape} → written_columns s ≡ written_columns t
-    → SameColumns columns columns room room overflows overflows s t
-columns_alike same = record { columns_are = refl; room_is = refl; overflow = λ e n h. h; of_shape = same }
-
-module _ {E : Type 0} {columns parts : E → Columns} {room room_of_parts : E → ℕ} {overflows parts_overflow : E → ℕ → Type 0} {s t : Shape}
-    (same : SameColumns columns parts room room_of_parts overflows parts_overflow s t) where
-  pub struct_of_shape : ((e : E) → emptied (parts e) ≡ written_columns s []) → (e : E) → emptied (columns e) ≡ written_columns t []
-  struct_of_shape of_shape e = ap (λ of. emptied (of e)) same.columns_are ∙ of_shape e ∙ ap (λ columns. columns []) same.of_shape
-
-  pub struct_surely : ((d : Datum) → IsOf t d → IsOf s d) → ((e : E) (n : ℕ) → parts_overflow e n → SurelyOverflows s (parts e) n)
-      → (e : E) (n : ℕ) → overflows e n → SurelyOverflows t (columns e) n
-  struct_surely of_fields surely e n h ds each size fits =
-      surely e n (same.overflow e n h) ds (All-weaker (IsOf t) (IsOf s) of_fields ds each) size
-      (subst (λ of. CountsFit (beside (parts e) (of ds))) (sym same.of_shape) (subst (λ of. CountsFit (beside (of e) (written_columns t ds))) same.columns_are fits))
+  pub struct_surely : ((d : Datum) → IsOf t d → IsOf s d) → (n : ℕ) → SurelyOverflows s columns n → SurelyOverflows t columns n
+  struct_surely of_fields n surely ds each size fits =
+      surely ds (All-weaker (IsOf t) (IsOf s) of_fields ds each) size (subst (λ of. CountsFit (beside columns (of ds))) (sym same) fits)
 
 -- the listings of a pair follow from those of both halves
 listed_pair : {A B C D : Type 0} {lists_a : A → Datum → Type 0} {lists_b : B → Datum → Type 0} {lists_c : C → Datum → Type 0} {lists_d : D → Datum → Type 0}

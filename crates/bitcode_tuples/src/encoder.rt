@@ -4,7 +4,7 @@ ghost use Rattle.bitcode_coder.specs.Columns.{two};
 ghost use Rattle.bitcode_tuples.specs.PairLaws.{both_of_shape, both_surely};
 
 use crate::fields::FieldsEncoder;
-use bitcode_coder::coder::{Buffer, EncodeMany, Encoder};
+use bitcode_coder::coder::{Buffer, EncodeMany, Encoder, HoldsColumns};
 use bitcode_coder::part::{First, Part, Second, told_parts};
 use bitcode_memory::error::Error;
 use bitcode_shapes::shaped::Shaped;
@@ -21,7 +21,7 @@ pub struct TupleEncoder<A, B> {
     pub second: B,
 }
 
-impl<A: Buffer, B: Buffer> Buffer for TupleEncoder<A, B> {
+impl<A: HoldsColumns, B: HoldsColumns> HoldsColumns for TupleEncoder<A, B> {
     ghost columns = { λ e. two (A.columns e.first) (B.columns e.second) };
 
     ghost room = { λ e. min (A.room e.first) (B.room e.second) };
@@ -34,6 +34,10 @@ impl<A: Buffer, B: Buffer> Buffer for TupleEncoder<A, B> {
     ghost overflows = { λ e n. A.overflows e.first n
         ⊎ ((n ≤ A.room e.first) × B.overflows e.second n) };
 
+    ghost writes_free = { A.writes_free && B.writes_free };
+}
+
+impl<A: Buffer, B: Buffer> Buffer for TupleEncoder<A, B> {
     fn new(alloc: Global) -> Self {
         TupleEncoder {
             first: A::new(alloc),
@@ -57,9 +61,8 @@ impl<A: Buffer, B: Buffer> Buffer for TupleEncoder<A, B> {
     }
 }
 
-impl<P: Shaped, Q: Shaped, A: Encoder<P>, B: Encoder<Q>> Encoder<(P, Q)> for TupleEncoder<A, B> {
-    ghost writes_free = { A.writes_free && B.writes_free };
-
+impl<P: Shaped, Q: Shaped, A: Buffer + Encoder<P>, B: Buffer + Encoder<Q>> Encoder<(P, Q)>
+    for TupleEncoder<A, B> {
     fn encode(&mut self, t: &(P, Q)) -> Result<(), Error> {
         self.encode_fields(&(&t.0, &t.1))
     }
@@ -88,4 +91,8 @@ impl<P: Shaped, Q: Shaped, A: EncodeMany<P>, B: EncodeMany<Q>> EncodeMany<(P, Q)
             .encode_part_of_each(items, &First::of(which), &first.0)?;
         self.second.encode_part_of_each(items, &second, &first.1)
     }
+
+    ghost of_shape = { both_of_shape A.of_shape B.of_shape };
+
+    ghost surely = { both_surely A.surely B.surely };
 }

@@ -1,11 +1,11 @@
 //! The fields of a tuple, borrowed separately, and encoders that accept them like this.
-ghost use Rattle.std.specs.Prelude.{◌≡◌, ◌≢◌, ◌+◌, ◌<◌, ◌≤◌, Bool, ◌&&◌, IsTrue, OnOk, IfErr};
+ghost use Rattle.std.specs.Prelude.{◌≡◌, ◌≢◌, ◌+◌, ◌<◌, ◌≤◌, IsTrue, OnOk, IfErr};
 ghost use Rattle.bitcode_coder.specs.Columns.{emptied};
 ghost use Rattle.bitcode_coder.specs.Coder.{BeginsWith, JoinsListing, WritesListing, OverflowsWithListing};
 ghost use Rattle.bitcode_coder.specs.Coder.{IsWritingRefusal};
 
 use crate::encoder::TupleEncoder;
-use bitcode_coder::coder::{Buffer, Encoder};
+use bitcode_coder::coder::{Buffer, Encoder, HoldsColumns};
 use bitcode_coder::one::write_one;
 use bitcode_memory::error::{Error, Reason};
 use bitcode_shapes::shaped::Shaped;
@@ -49,10 +49,7 @@ impl<F: Fields, G: Fields> Fields for (F, G) {
 }
 
 /// Like `Encoder`, for values whose fields are borrowed separately, as those of a struct are.
-pub trait FieldsEncoder<F: Fields>: Buffer {
-    // writing the fields takes no memory, where room for them was reserved
-    ghost writes_free: { Bool };
-
+pub trait FieldsEncoder<F: Fields>: HoldsColumns {
     /// Adds the value with these fields to the columns, as `Encoder::encode` does. The caller must have reserved room
     /// for it.
     ///
@@ -76,7 +73,8 @@ pub trait FieldsEncoder<F: Fields>: Buffer {
             (λ e. IsWritingRefusal e.reason
             (OverflowsWithListing F.Whole.data.lists F.Whole.data.shape (F.whole fields.now)
             (Self.columns self.old))) }
-        ensures free { IsTrue writes_free → IfErr result (λ e. e.reason ≢ Reason.OutOfMemory) };
+        ensures free { IsTrue Self.writes_free
+            → IfErr result (λ e. e.reason ≢ Reason.OutOfMemory) };
 
     /// Appends the columns of the fields to `out`, like `write_one`. The encoder has no entries before and after.
     ///
@@ -96,9 +94,7 @@ pub trait FieldsEncoder<F: Fields>: Buffer {
             (Self.columns self.old))) };
 }
 
-impl<'a, P: Shaped, E: Encoder<P>> FieldsEncoder<&'a P> for E {
-    ghost writes_free = { E.writes_free };
-
+impl<'a, P: Shaped, E: Buffer + Encoder<P>> FieldsEncoder<&'a P> for E {
     fn encode_fields(&mut self, fields: &&'a P) -> Result<(), Error> {
         self.encode(*fields)
     }
@@ -110,8 +106,6 @@ impl<'a, P: Shaped, E: Encoder<P>> FieldsEncoder<&'a P> for E {
 
 impl<F: Fields, G: Fields, A: FieldsEncoder<F>, B: FieldsEncoder<G>> FieldsEncoder<(F, G)>
     for TupleEncoder<A, B> {
-    ghost writes_free = { A.writes_free && B.writes_free };
-
     fn encode_fields(&mut self, fields: &(F, G)) -> Result<(), Error> {
         fields.1.told();
         self.first.encode_fields(&fields.0)?;

@@ -1,12 +1,10 @@
 //! The fields of ranges: their ends.
 ghost use Rattle.std.specs.Prelude.{refl};
 ghost use Rattle.std.specs.Range.{range_inclusive_end, range_inclusive_start};
-ghost use Rattle.bitcode_tuples.specs.FieldLaws.{columns_alike, field_alike, pair_alike};
+ghost use Rattle.bitcode_tuples.specs.FieldLaws.{field_alike, pair_alike};
 
-use crate::encoder::TupleEncoder;
 use crate::has_field::{HasField, Nth};
 use crate::struct_encoder::InFields;
-use bitcode_coder::coder::{Buffer, EncodeMany};
 use bitcode_shapes::shaped::Shaped;
 use std::ops::{Range, RangeInclusive};
 
@@ -30,12 +28,12 @@ impl<T: Shaped> HasField<1> for Range<T> {
     }
 }
 
-impl<T: Shaped, A: EncodeMany<T>, B: EncodeMany<T>> InFields<TupleEncoder<A, B>> for Range<T> {
+impl<T: Shaped> InFields for Range<T> {
     type Numbers = (Nth<0>, Nth<1>);
 
-    type Inside = ();
+    type Inside = T;
 
-    ghost same_columns = { columns_alike refl };
+    ghost same_columns = { refl };
 
     ghost of_fields = { λ d h. h };
 
@@ -62,13 +60,12 @@ impl<T: Shaped> HasField<1> for RangeInclusive<T> {
     }
 }
 
-impl<T: Shaped, A: EncodeMany<T>, B: EncodeMany<T>> InFields<TupleEncoder<A, B>>
-    for RangeInclusive<T> {
+impl<T: Shaped> InFields for RangeInclusive<T> {
     type Numbers = (Nth<0>, Nth<1>);
 
-    type Inside = ();
+    type Inside = T;
 
-    ghost same_columns = { columns_alike refl };
+    ghost same_columns = { refl };
 
     ghost of_fields = { λ d h. h };
 

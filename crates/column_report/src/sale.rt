@@ -1,7 +1,7 @@
 //! `Sale` corresponds to the tuple of its fields. What is below its declaration was written by `scripts/new_type`.
-ghost use Rattle.bitcode.specs.ByHand.{columns_alike, data_as, field_alike, pair_alike, refl};
+ghost use Rattle.bitcode.specs.ByHand.{data_as, field_alike, pair_alike, refl};
 
-use bitcode::own::{DecoderOfFields, HasField, InFields, Nth, StructEncoder};
+use bitcode::own::{DecoderOfFields, HasField, InFields, Nth};
 use bitcode::{ConvertFrom, Error, HasDecoder, HasEncoder, Shaped};
 use std::alloc::Global;
 
@@ -70,14 +70,12 @@ impl<'a> HasField<2> for Sale<'a> {
     }
 }
 
-type Fields<'a> = <(&'a str, (u16, u32)) as HasEncoder>::Encoder;
-
-impl<'a> InFields<Fields<'a>> for Sale<'a> {
+impl<'a> InFields for Sale<'a> {
     type Numbers = (Nth<0>, (Nth<1>, Nth<2>));
 
-    type Inside = <Sale<'a> as HasDecoder<'a>>::Decoder;
+    type Inside = (&'a str, u16, u32);
 
-    ghost same_columns = { columns_alike refl };
+    ghost same_columns = { refl };
 
     ghost of_fields = { λ d h. h };
 
@@ -85,7 +83,7 @@ impl<'a> InFields<Fields<'a>> for Sale<'a> {
 }
 
 impl<'a> HasEncoder for Sale<'a> {
-    type Encoder = StructEncoder<Fields<'a>>;
+    type Encoder = <(&'a str, u16, u32) as HasEncoder>::Encoder;
 }
 
 impl<'a> HasDecoder<'a> for Sale<'a> {

@@ -1,7 +1,6 @@
 //! `Celsius` corresponds to the tuple of its fields. What is below its declaration was written by `scripts/new_type`.
 ghost use Rattle.std.specs.Prelude.{MatchOption, false, int_le, negsuc, true, ◌≡◌};
-ghost use Rattle.bitcode.specs.ByHand.{admits, admits-takes, admitted_data, columns_alike, field_alike, integer_back};
-ghost use Rattle.bitcode.specs.ByHand.{refl};
+ghost use Rattle.bitcode.specs.ByHand.{admits, admits-takes, admitted_data, field_alike, integer_back, refl};
 
 use bitcode::own::{DecoderOfChecked, FromChecked, HasField, InFields, Nth, StructEncoder};
 use bitcode::{DecodeOwned, HasDecoder, HasEncoder, Shaped};
@@ -72,14 +71,12 @@ impl HasField<0> for Celsius {
     }
 }
 
-type Fields = <i64 as HasEncoder>::Encoder;
-
-impl InFields<Fields> for Celsius {
+impl InFields for Celsius {
     type Numbers = Nth<0>;
 
-    type Inside = <Celsius as HasDecoder<'static>>::Decoder;
+    type Inside = i64;
 
-    ghost same_columns = { columns_alike refl };
+    ghost same_columns = { refl };
 
     ghost of_fields = { λ d h. h.0 };
 
@@ -87,7 +84,7 @@ impl InFields<Fields> for Celsius {
 }
 
 impl HasEncoder for Celsius {
-    type Encoder = StructEncoder<Fields>;
+    type Encoder = StructEncoder<<i64 as HasEncoder>::Encoder>;
 }
 
 impl<'a> HasDecoder<'a> for Celsius {

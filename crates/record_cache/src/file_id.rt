@@ -1,5 +1,5 @@
 //! `FileId` corresponds to the tuple of its fields. What is below its declaration was written by `scripts/new_type`.
-ghost use Rattle.bitcode.specs.ByHand.{columns_alike, data_as, field_alike, pair_alike, refl};
+ghost use Rattle.bitcode.specs.ByHand.{data_as, field_alike, pair_alike, refl};
 
 use bitcode::own::{DecoderOfFields, HasField, InFields, Nth, StructEncoder};
 use bitcode::{ConvertFrom, DecodeOwned, Error, HasDecoder, HasEncoder, Key, Shaped};
@@ -51,14 +51,12 @@ impl HasField<1> for FileId {
     }
 }
 
-type Fields = <(u64, u64) as HasEncoder>::Encoder;
-
-impl InFields<Fields> for FileId {
+impl InFields for FileId {
     type Numbers = (Nth<0>, Nth<1>);
 
-    type Inside = <FileId as HasDecoder<'static>>::Decoder;
+    type Inside = (u64, u64);
 
-    ghost same_columns = { columns_alike refl };
+    ghost same_columns = { refl };
 
     ghost of_fields = { λ d h. h };
 
@@ -66,7 +64,7 @@ impl InFields<Fields> for FileId {
 }
 
 impl HasEncoder for FileId {
-    type Encoder = StructEncoder<Fields>;
+    type Encoder = StructEncoder<<(u64, u64) as HasEncoder>::Encoder>;
 }
 
 impl<'a> HasDecoder<'a> for FileId {

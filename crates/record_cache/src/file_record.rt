@@ -1,9 +1,9 @@
 //! `FileRecord` corresponds to the tuple of its fields. What is below its declaration was written by
 //! `scripts/new_type`.
 ghost use Rattle.std.specs.Prelude.{◌≡◌};
-ghost use Rattle.bitcode.specs.ByHand.{columns_alike, data_as, field_alike, pair_alike, refl};
+ghost use Rattle.bitcode.specs.ByHand.{data_as, field_alike, pair_alike, refl};
 
-use bitcode::own::{DecoderOfFields, HasField, InFields, Nth, StructEncoder};
+use bitcode::own::{DecoderOfFields, HasField, InFields, Nth};
 use bitcode::sealed::{
     Earlier, Expected, OpenError, ReadsVersions, Version, Versioned, open_version,
 };
@@ -89,14 +89,12 @@ impl HasField<3> for FileRecord {
     }
 }
 
-type Fields = <((u64, i64), (u32, u32)) as HasEncoder>::Encoder;
-
-impl InFields<Fields> for FileRecord {
+impl InFields for FileRecord {
     type Numbers = ((Nth<0>, Nth<1>), (Nth<2>, Nth<3>));
 
-    type Inside = <FileRecord as HasDecoder<'static>>::Decoder;
+    type Inside = (u64, i64, u32, u32);
 
-    ghost same_columns = { columns_alike refl };
+    ghost same_columns = { refl };
 
     ghost of_fields = { λ d h. h };
 
@@ -105,7 +103,7 @@ impl InFields<Fields> for FileRecord {
 }
 
 impl HasEncoder for FileRecord {
-    type Encoder = StructEncoder<Fields>;
+    type Encoder = <(u64, i64, u32, u32) as HasEncoder>::Encoder;
 }
 
 impl<'a> HasDecoder<'a> for FileRecord {

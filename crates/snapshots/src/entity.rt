@@ -1,8 +1,8 @@
 //! `Entity` corresponds to the tuple of its fields. What is below its declaration was written by `scripts/new_type`.
-ghost use Rattle.bitcode.specs.ByHand.{columns_alike, data_as, field_alike, pair_alike, refl};
+ghost use Rattle.bitcode.specs.ByHand.{data_as, field_alike, pair_alike, refl};
 
 use crate::kind::Kind;
-use bitcode::own::{DecoderOfFields, HasField, InFields, Nth, StructEncoder};
+use bitcode::own::{DecoderOfFields, HasField, InFields, Nth};
 use bitcode::{ConvertFrom, DecodeOwned, Error, HasDecoder, HasEncoder, Shaped};
 use std::alloc::Global;
 
@@ -132,17 +132,15 @@ impl HasField<6> for Entity {
     }
 }
 
-type Fields = <((u32, (Kind, i32)), ((i32, u16), (bool, Option<u32>))) as HasEncoder>::Encoder;
-
-impl InFields<Fields> for Entity {
+impl InFields for Entity {
     type Numbers = (
         (Nth<0>, (Nth<1>, Nth<2>)),
         ((Nth<3>, Nth<4>), (Nth<5>, Nth<6>)),
     );
 
-    type Inside = <Entity as HasDecoder<'static>>::Decoder;
+    type Inside = Parts;
 
-    ghost same_columns = { columns_alike refl };
+    ghost same_columns = { refl };
 
     ghost of_fields = { λ d h. h };
 
@@ -152,7 +150,7 @@ impl InFields<Fields> for Entity {
 }
 
 impl HasEncoder for Entity {
-    type Encoder = StructEncoder<Fields>;
+    type Encoder = <Parts as HasEncoder>::Encoder;
 }
 
 impl<'a> HasDecoder<'a> for Entity {

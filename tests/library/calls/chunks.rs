@@ -2,7 +2,7 @@
 use bitcode::coder::{Buffer as _, write_length, write_one};
 use bitcode::own::{Nth, reserve_as, reserve_part};
 use bitcode::{
-    BoolEncoder, Encoder, IntEncoder, LengthEncoder, MAX_VECTORED_CHUNK, TupleEncoder,
+    BoolEncoder, EncodeMany, Encoder, IntEncoder, LengthEncoder, MAX_VECTORED_CHUNK, TupleEncoder,
     VariantEncoder,
 };
 use std::test::Fail;

@@ -1,8 +1,8 @@
 //! Floats: what the Rust crate wrote and read, each NaN, and each public call once.
 use bitcode::coder::Buffer;
 use bitcode::{
-    Decoder, Encoder, Error, F32Decoder, F32Encoder, F64Decoder, F64Encoder, NewDecoder, Reason,
-    View, decode, decode_strict, encode, err, pack_f32s,
+    Decoder, EncodeMany, Encoder, Error, F32Decoder, F32Encoder, F64Decoder, F64Encoder, NewDecoder,
+    Reason, View, decode, decode_strict, encode, err, pack_f32s,
 };
 use bitcode_test_support::Got;
 use std::alloc::Global;

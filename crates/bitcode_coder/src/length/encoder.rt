@@ -1,8 +1,8 @@
 //! The encoder of lengths.
 #![tactic(auto, unfolding(crate::specs::Length::written_lengths, crate::specs::Length::length_room, crate::specs::Length::length_capacity))]
 
-ghost use Rattle.std.specs.Prelude.{◌≡◌, ◌+◌, ◌<◌, ◌≤◌, ◌++◌, [], ◌∷◌, None, length, map, All, pos, IsTrue, IsFalse};
-ghost use Rattle.std.specs.Prelude.{IsOk, OnOk, IfErr, OnErr};
+ghost use Rattle.std.specs.Prelude.{◌≡◌, false, ◌+◌, ◌<◌, ◌≤◌, ◌++◌, [], ◌∷◌, None, length, map, All, pos, IsTrue};
+ghost use Rattle.std.specs.Prelude.{IsFalse, IsOk, OnOk, IfErr, OnErr};
 ghost use Rattle.bitcode_columns.specs.ByteColumn.{byte_text};
 ghost use Rattle.bitcode_memory.specs.Fast.{fast_items, fast_room};
 ghost use Rattle.bitcode_columns.specs.IntColumn.{int_text};
@@ -12,7 +12,7 @@ ghost use Rattle.bitcode_coder.specs.LengthColumn.{length_bytes};
 ghost use Rattle.bitcode_coder.specs.LengthParts.{AreLengthParts};
 ghost use Rattle.bitcode_coder.specs.Spelling.{natural};
 
-use crate::coder::Buffer;
+use crate::coder::{Buffer, HoldsColumns};
 use crate::length::{ChunkWidth, ESCAPE, Len};
 use crate::one::write_length;
 use bitcode_columns::pack::pack_bytes;
@@ -82,7 +82,7 @@ fn push_short<T: Len>(mut small: FastVec<u8>, chunk: &[T], max: usize) -> FastVe
     small
 }
 
-impl Buffer for LengthEncoder {
+impl HoldsColumns for LengthEncoder {
     ghost use Rattle.bitcode_coder.specs.Length.{written_lengths, length_room, length_capacity};
 
     ghost columns = { λ e. one (lengths None) (map natural (written_lengths e)) };
@@ -95,6 +95,10 @@ impl Buffer for LengthEncoder {
 
     ghost overflows = { λ e n. ⊥ };
 
+    ghost writes_free = { false };
+}
+
+impl Buffer for LengthEncoder {
     fn new(alloc: Global) -> Self {
         LengthEncoder {
             alloc,

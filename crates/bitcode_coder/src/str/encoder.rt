@@ -10,7 +10,7 @@ ghost use Rattle.bitcode_coder.specs.PushedTexts.{PushesTexts, texts_in};
 ghost use Rattle.bitcode_coder.specs.Length.{written_lengths, length_room, length_capacity};
 ghost use Rattle.bitcode_coder.specs.LengthColumn.{length_bytes};
 
-use crate::coder::{Buffer, EncodeMany, Encoder, MAX_VECTORED_CHUNK};
+use crate::coder::{Buffer, EncodeMany, Encoder, HoldsColumns, MAX_VECTORED_CHUNK};
 use crate::length::LengthEncoder;
 use crate::one::write_length;
 use crate::part::Part;
@@ -230,7 +230,7 @@ impl StrEncoder {
     }
 }
 
-impl Buffer for StrEncoder {
+impl HoldsColumns for StrEncoder {
     ghost use Rattle.bitcode_coder.specs.WrittenTexts.{written_texts};
 
     ghost columns = { λ e. one (texts None) (map text (written_texts e)) };
@@ -243,6 +243,10 @@ impl Buffer for StrEncoder {
 
     ghost overflows = { λ e n. ⊥ };
 
+    ghost writes_free = { false };
+}
+
+impl Buffer for StrEncoder {
     fn new(alloc: Global) -> Self {
         StrEncoder {
             alloc,
@@ -270,8 +274,6 @@ impl Buffer for StrEncoder {
 }
 
 impl<P: AsText> Encoder<P> for StrEncoder {
-    ghost writes_free = { false };
-
     fn encode(&mut self, t: &P) -> Result<(), Error> {
         self.encode_text(t.as_text().as_bytes())
     }
@@ -297,4 +299,8 @@ impl<P: AsText> EncodeMany<P> for StrEncoder {
     ) -> Result<(), Error> {
         self.encode_texts_in(items, which)
     }
+
+    ghost of_shape = { λ e. sym (P.as_text_columns []) };
+
+    ghost surely = { λ e n never. absurd never };
 }

@@ -10,7 +10,9 @@ ghost use Rattle.bitcode_parts.specs.Variants.{written_variants, variant_room, v
 
 use crate::choices::gathered::{SaysVariant, gather_variants};
 use crate::choices::variant::{VariantDecoder, VariantEncoder, read_variant};
-use bitcode_coder::coder::{Buffer, Decoder, EncodeMany, Encoder, MAX_VECTORED_CHUNK};
+use bitcode_coder::coder::{
+    Buffer, Decoder, EncodeMany, Encoder, HoldsColumns, MAX_VECTORED_CHUNK,
+};
 use bitcode_coder::part::Part;
 use bitcode_memory::error::Error;
 use bitcode_shapes::bare_variants::{BareShaped, BareVariants};
@@ -32,7 +34,7 @@ pub struct BareEncoder<const N: usize> {
     variants: VariantEncoder<N>,
 }
 
-impl<const N: usize> Buffer for BareEncoder<N> {
+impl<const N: usize> HoldsColumns for BareEncoder<N> {
     ghost columns = { λ e. bare_columns N (written_variants e.variants) };
 
     ghost room = { λ e. variant_room e.variants };
@@ -43,6 +45,10 @@ impl<const N: usize> Buffer for BareEncoder<N> {
 
     ghost overflows = { λ e n. ⊥ };
 
+    ghost writes_free = { true };
+}
+
+impl<const N: usize> Buffer for BareEncoder<N> {
     fn new(alloc: Global) -> Self {
         BareEncoder {
             variants: VariantEncoder::new(alloc),
@@ -77,8 +83,6 @@ impl<const N: usize, T: BareVariants<N>> SaysVariant<T> for BareVariant<N> {
 }
 
 impl<const N: usize, T: BareShaped<N>> Encoder<T> for BareEncoder<N> {
-    ghost writes_free = { true };
-
     fn encode(&mut self, t: &T) -> Result<(), Error> {
         self.variants.encode(t.index());
         Ok(())
@@ -101,6 +105,10 @@ impl<const N: usize, T: BareShaped<N>> EncodeMany<T> for BareEncoder<N> {
         self.variants.encode_vectored(&variants[..items.len()]);
         Ok(())
     }
+
+    ghost of_shape = { λ e. bare_of_shape N (written_variants e.variants) T.has_shape };
+
+    ghost surely = { λ e n h. absurd h };
 }
 
 impl<'a, const N: usize, const C_STYLE: bool, T: BareShaped<N>> Decoder<T>

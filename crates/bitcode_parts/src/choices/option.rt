@@ -12,7 +12,8 @@ use crate::choices::option::gathered::{OptionVariant, encode_values};
 use crate::choices::variant::{VariantDecoder, VariantEncoder, encode_payload};
 use crate::empty::EmptyCoder;
 use bitcode_coder::coder::{
-    Buffer, Decoder, EncodeMany, Encoder, HoldsData, MAX_VECTORED_CHUNK, NewDecoder, View, both,
+    Buffer, Decoder, EncodeMany, Encoder, HoldsColumns, HoldsData, MAX_VECTORED_CHUNK, NewDecoder,
+    View, both,
 };
 use bitcode_coder::column_free::ColumnFree;
 use bitcode_coder::one::write_one;
@@ -40,8 +41,8 @@ pub struct OptionEncoder<E> {
     some: E,
 }
 
-impl<E: Buffer> Buffer for OptionEncoder<E> {
-    ghost columns = { λ e. two (⟦<VariantEncoder<2> as Buffer>⟧.columns e.variants)
+impl<E: HoldsColumns> HoldsColumns for OptionEncoder<E> {
+    ghost columns = { λ e. two (⟦<VariantEncoder<2> as HoldsColumns>⟧.columns e.variants)
         (two no_columns (two (E.columns e.some) no_columns)) };
 
     ghost room = { λ e. variant_room e.variants };
@@ -52,6 +53,10 @@ impl<E: Buffer> Buffer for OptionEncoder<E> {
 
     ghost overflows = { λ e n. ⊥ };
 
+    ghost writes_free = { false };
+}
+
+impl<E: Buffer> Buffer for OptionEncoder<E> {
     fn new(alloc: Global) -> Self {
         OptionEncoder {
             variants: VariantEncoder::new(alloc),
@@ -74,9 +79,7 @@ impl<E: Buffer> Buffer for OptionEncoder<E> {
     }
 }
 
-impl<T: Shaped, E: Encoder<T>> Encoder<Option<T>> for OptionEncoder<E> {
-    ghost writes_free = { false };
-
+impl<T: Shaped, E: Buffer + Encoder<T>> Encoder<Option<T>> for OptionEncoder<E> {
     fn encode(&mut self, t: &Option<T>) -> Result<(), Error> {
         match t {
             None => {
@@ -110,7 +113,7 @@ impl<T: Shaped, E: Encoder<T>> Encoder<Option<T>> for OptionEncoder<E> {
     ghost surely = { λ e n h. absurd h };
 }
 
-impl<T: Shaped, E: EncodeMany<T>> EncodeMany<Option<T>> for OptionEncoder<E> {
+impl<T: Shaped, E: Buffer + EncodeMany<T>> EncodeMany<Option<T>> for OptionEncoder<E> {
     fn encode_part_of_each<S, W: Part<S, Option<T>>>(
         &mut self,
         items: &[S],
@@ -122,6 +125,10 @@ impl<T: Shaped, E: EncodeMany<T>> EncodeMany<Option<T>> for OptionEncoder<E> {
         self.variants.encode_vectored(&variants[..items.len()]);
         encode_values(&mut self.some, items, which)
     }
+
+    ghost of_shape = { λ e. two_variants_form refl (E.of_shape e.some) };
+
+    ghost surely = { λ e n h. absurd h };
 }
 
 /// The decoder of options. It reads which of them have a value, and then all values.

@@ -9,9 +9,11 @@ ghost use Rattle.bitcode_parts.specs.Variants.{variant_room, variant_capacity, v
 
 use crate::choices::variant::{VariantDecoder, VariantEncoder, encode_payload};
 use bitcode_coder::coder::{
-    Buffer, Decoder, EncodeMany, Encoder, HoldsData, NewDecoder, View, both,
+    Buffer, Decoder, EncodeMany, Encoder, HoldsColumns, HoldsData, NewDecoder, View, both,
+    encode_parts,
 };
 use bitcode_coder::column_free::ColumnFree;
+use bitcode_coder::part::Part;
 use bitcode_memory::consume::consume_byte;
 use bitcode_memory::error::Error;
 use bitcode_shapes::shaped::Shaped;
@@ -33,8 +35,8 @@ pub struct ResultEncoder<A, B> {
     err: B,
 }
 
-impl<A: Buffer, B: Buffer> Buffer for ResultEncoder<A, B> {
-    ghost columns = { λ e. two (⟦<VariantEncoder<2> as Buffer>⟧.columns e.variants)
+impl<A: HoldsColumns, B: HoldsColumns> HoldsColumns for ResultEncoder<A, B> {
+    ghost columns = { λ e. two (⟦<VariantEncoder<2> as HoldsColumns>⟧.columns e.variants)
         (two (A.columns e.ok) (two (B.columns e.err) no_columns)) };
 
     ghost room = { λ e. variant_room e.variants };
@@ -45,6 +47,10 @@ impl<A: Buffer, B: Buffer> Buffer for ResultEncoder<A, B> {
 
     ghost overflows = { λ e n. ⊥ };
 
+    ghost writes_free = { false };
+}
+
+impl<A: Buffer, B: Buffer> Buffer for ResultEncoder<A, B> {
     fn new(alloc: Global) -> Self {
         ResultEncoder {
             variants: VariantEncoder::new(alloc),
@@ -70,10 +76,8 @@ impl<A: Buffer, B: Buffer> Buffer for ResultEncoder<A, B> {
     }
 }
 
-impl<T: Shaped, E: Shaped, A: Encoder<T>, B: Encoder<E>> Encoder<Result<T, E>>
+impl<T: Shaped, E: Shaped, A: Buffer + Encoder<T>, B: Buffer + Encoder<E>> Encoder<Result<T, E>>
     for ResultEncoder<A, B> {
-    ghost writes_free = { false };
-
     fn encode(&mut self, t: &Result<T, E>) -> Result<(), Error> {
         match t {
             Ok(value) => {
@@ -92,8 +96,21 @@ impl<T: Shaped, E: Shaped, A: Encoder<T>, B: Encoder<E>> Encoder<Result<T, E>>
     ghost surely = { λ e n h. absurd h };
 }
 
-impl<T: Shaped, E: Shaped, A: Encoder<T>, B: Encoder<E>> EncodeMany<Result<T, E>>
-    for ResultEncoder<A, B> {}
+impl<T: Shaped, E: Shaped, A: Buffer + Encoder<T>, B: Buffer + Encoder<E>> EncodeMany<Result<T, E>>
+    for ResultEncoder<A, B> {
+    fn encode_part_of_each<S, W: Part<S, Result<T, E>>>(
+        &mut self,
+        items: &[S],
+        which: &W,
+        _first: &Result<T, E>,
+    ) -> Result<(), Error> {
+        encode_parts(self, items, which)
+    }
+
+    ghost of_shape = { λ e. two_variants_form (A.of_shape e.ok) (B.of_shape e.err) };
+
+    ghost surely = { λ e n h. absurd h };
+}
 
 /// The decoder of results. It reads which of them are errors, then all values, then all errors.
 ///

@@ -1,8 +1,8 @@
 //! The variants of enums: their encoder, their decoder, and encoding a payload.
 #![tactic(auto, unfolding(crate::specs::Variants::written_variants, crate::specs::Variants::variant_room, crate::specs::Variants::variant_capacity, crate::specs::Variants::variants_left, crate::specs::Variants::variant_counts, crate::specs::Variants::variants_owned))]
 
-ghost use Rattle.std.specs.Prelude.{◌≡◌, false, ◌+◌, ◌<◌, ◌≤◌, ◌++◌, [], ◌∷◌, length, map, slice_index, All, IsTrue};
-ghost use Rattle.std.specs.Prelude.{◌↔◌, IfOk, OnOk, IfErr, OnErr, IfSome};
+ghost use Rattle.std.specs.Prelude.{◌≡◌, true, false, ◌+◌, ◌<◌, ◌≤◌, ◌++◌, [], ◌∷◌, length, map, slice_index, All};
+ghost use Rattle.std.specs.Prelude.{IsTrue, ◌↔◌, IfOk, OnOk, IfErr, OnErr, IfSome};
 ghost use Rattle.bitcode_memory.specs.Fast.{fast_items};
 ghost use Rattle.bitcode_columns.specs.Histogram.{AreCounts};
 ghost use Rattle.bitcode_columns.specs.Reading.{Reads, IsEndOf};
@@ -17,7 +17,7 @@ ghost use Rattle.bitcode_coder.specs.Spelling.{Spells, natural};
 ghost use Rattle.bitcode_coder.specs.Strict.{JudgesData};
 
 use bitcode_coder::coder::{
-    Buffer, EncodeMany, Encoder, HoldsData, MAX_VECTORED_CHUNK, NewDecoder, View,
+    Buffer, EncodeMany, Encoder, HoldsColumns, HoldsData, MAX_VECTORED_CHUNK, NewDecoder, View,
 };
 use bitcode_coder::column_free::ColumnFree;
 use bitcode_coder::part::Behind;
@@ -46,7 +46,7 @@ pub struct VariantEncoder<const N: usize> {
     ghost known: { All (λ variant. variant < N) (fast_items variants) },
 }
 
-impl<const N: usize> Buffer for VariantEncoder<N> {
+impl<const N: usize> HoldsColumns for VariantEncoder<N> {
     ghost use Rattle.bitcode_parts.specs.Variants.{written_variants, variant_room, variant_capacity};
 
     ghost columns = { λ e. one (variants N) (map natural (written_variants e)) };
@@ -59,6 +59,10 @@ impl<const N: usize> Buffer for VariantEncoder<N> {
 
     ghost overflows = { λ e n. ⊥ };
 
+    ghost writes_free = { true };
+}
+
+impl<const N: usize> Buffer for VariantEncoder<N> {
     fn new(alloc: Global) -> Self {
         VariantEncoder {
             variants: FastVec::new(alloc),
@@ -330,7 +334,10 @@ pub fn read_variant<const N: usize>(alloc: Global, input: &mut &[u8]) -> Option<
 /// let mut some: IntEncoder<u8> = IntEncoder::new(alloc);
 /// encode_payload(&mut some, &7)?;
 /// ```
-pub fn encode_payload<T: Shaped, E: Encoder<T>>(encoder: &mut E, t: &T) -> Result<(), Error>
+pub fn encode_payload<T: Shaped, E: Buffer + Encoder<T>>(
+    encoder: &mut E,
+    t: &T,
+) -> Result<(), Error>
     ensures joined { OnOk result
         (JoinsListing T.data.lists T.data.shape t.now (E.columns encoder.old)
         (E.columns encoder.new)) }
@@ -350,7 +357,7 @@ pub fn encode_payload<T: Shaped, E: Encoder<T>>(encoder: &mut E, t: &T) -> Resul
 /// let mut some: IntEncoder<u8> = IntEncoder::new(alloc);
 /// encode_payloads(&mut some, &[&7, &8])?;
 /// ```
-pub fn encode_payloads<T: Shaped, E: EncodeMany<T>>(
+pub fn encode_payloads<T: Shaped, E: Buffer + EncodeMany<T>>(
     encoder: &mut E,
     several: &[&T],
 ) -> Result<(), Error>

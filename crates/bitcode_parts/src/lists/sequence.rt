@@ -1,6 +1,7 @@
 //! Sequences: iterators that lend elements, encoding and decoding elements one by one, and the types that are written
 //! as, and made from, the sequence of their elements.
-ghost use Rattle.std.specs.Prelude.{◌≡◌, ◌≢◌, ◌+◌, ◌≤◌, List, [], ◌∷◌, None, length, All, refl, IsTrue, IsFalse, IsOk};
+ghost use Rattle.std.specs.Prelude.{◌≡◌, ◌≢◌, ◌+◌, ◌<◌, ◌≤◌, ◌++◌, List, [], ◌∷◌, None, length, map, take, All, refl};
+ghost use Rattle.std.specs.Prelude.{IsTrue, IsFalse, IsOk};
 ghost use Rattle.std.specs.Prelude.{IfOk, OnOk, IfErr, IfSome, IfNone};
 ghost use Rattle.std.specs.Slice.Iter.{iter_rest};
 ghost use Rattle.std.specs.VecDeque.{deque_items};
@@ -14,7 +15,8 @@ ghost use Rattle.bitcode_coder.specs.Coder.{written_columns, BeginsWith, JoinsEa
 ghost use Rattle.bitcode_coder.specs.Coder.{IsWritingRefusal, TakesEach};
 ghost use Rattle.bitcode_parts.specs.Elements.{MakesOfElements};
 
-use bitcode_coder::coder::{Decoder, EncodeMany, Encoder, encode_in_chunks};
+use bitcode_coder::coder::{Decoder, EncodeMany};
+use bitcode_coder::part::Behind;
 use bitcode_memory::error::{Error, Reason};
 use bitcode_shapes::shaped::Shaped;
 use std::alloc::Global;
@@ -35,7 +37,8 @@ pub trait Lends<'b, T>: Drop {
     /// The next element.
     fn lend(&mut self) -> Option<&'b T>
         ensures next { IfSome result (λ item. rest self.old ≡ item.now ∷ rest self.new) }
-        ensures end { IfNone result (rest self.old ≡ []) };
+        ensures end { IfNone result (rest self.old ≡ []) }
+        ensures ended { IfNone result (rest self.new ≡ []) };
 }
 
 impl<'b, T> Lends<'b, T> for slice::Iter<'b, T> {
@@ -62,7 +65,29 @@ impl<'b, T> Lends<'b, T> for linked_list::Iter<'b, T> {
     }
 }
 
-/// Writes the elements that are lent, one after another. The caller must have reserved room for them.
+// So many elements that are lent are gathered, and written at once.
+const MOST_LENT: usize = 32;
+
+// Takes elements that are lent and puts references to them after the first one of the array, until the array is full
+// or none is left. Returns how many the array then has.
+fn gather_lent<'b, T, L: Lends<'b, T>>(lent: &mut L, several: &mut [&'b T; MOST_LENT]) -> usize
+    requires { length several.old ≡ MOST_LENT }
+    ensures count { (0 < result) × (result ≤ MOST_LENT) }
+    ensures size { length several.new ≡ MOST_LENT }
+    ensures taken { map (λ item. item.now) (take 1 several.old) ++ L.rest lent.old ≡ map
+        (λ item. item.now)
+        (take result several.new) ++ L.rest lent.new }
+{
+    for count in 1..MOST_LENT {
+        match lent.lend() {
+            Some(item) => several[count] = item,
+            None => return count,
+        }
+    }
+    MOST_LENT
+}
+
+/// Writes the elements that are lent, several of them at once. The caller must have reserved room for them.
 ///
 /// Errors: those of the encoder. Some of the first elements may have been written by then.
 ///
@@ -73,7 +98,7 @@ impl<'b, T> Lends<'b, T> for linked_list::Iter<'b, T> {
 /// encode_lent(&mut elements, queue.iter())?;
 /// assert_eq!(rt; elements.collect(alloc)?.as_slice(), [7, 8].as_slice());
 /// ```
-pub fn encode_lent<'b, T: Shaped + 'b, L: Lends<'b, T>, E: Encoder<T>>(
+pub fn encode_lent<'b, T: Shaped + 'b, L: Lends<'b, T>, E: EncodeMany<T>>(
     elements: &mut E,
     mut lent: L,
 ) -> Result<(), Error>
@@ -90,8 +115,10 @@ pub fn encode_lent<'b, T: Shaped + 'b, L: Lends<'b, T>, E: Encoder<T>>(
     ensures free { IsTrue E.writes_free → IfErr result (λ e. e.reason ≢ Reason.OutOfMemory) }
     ensures none { length (L.rest lent) ≡ 0 → IsOk result }
 {
-    while let Some(item) = lent.lend() {
-        elements.encode(item)?;
+    while let Some(first) = lent.lend() {
+        let mut several = [first; MOST_LENT];
+        let count = gather_lent(&mut lent, &mut several);
+        elements.encode_part_of_each(&several[..count], &Behind, first)?;
     }
     Ok(())
 }
@@ -119,11 +146,7 @@ pub fn encode_each<T: Shaped, E: EncodeMany<T>>(elements: &mut E, items: &[T]) -
     ensures free { IsTrue E.writes_free → IfErr result (λ e. e.reason ≢ Reason.OutOfMemory) }
     ensures none { length items.now ≡ 0 → IsOk result }
 {
-    if E::is_primitive() {
-        elements.encode_slice(items)
-    } else {
-        encode_in_chunks(elements, items)
-    }
+    elements.encode_slice(items)
 }
 
 /// Makes `count` values, one after another, with one call of the decoder. At least as many data must be left.
@@ -201,7 +224,7 @@ pub trait Sequence: Shaped {
     /// unchanged.
     ///
     /// The only error is `out of memory`. `out` then begins with its old bytes.
-    fn write_elements<E: Encoder<Self::Element>>(
+    fn write_elements<E: EncodeMany<Self::Element>>(
         &self,
         _elements: &E,
         _out: &mut Vec<u8>,
@@ -242,7 +265,7 @@ impl<T: Shaped> Sequence for Vec<T> {
         encode_each(elements, self.as_slice())
     }
 
-    fn write_elements<E: Encoder<T>>(
+    fn write_elements<E: EncodeMany<T>>(
         &self,
         elements: &E,
         out: &mut Vec<u8>,
@@ -270,7 +293,7 @@ impl<'b, T: Shaped> Sequence for &'b [T] {
         encode_each(elements, *self)
     }
 
-    fn write_elements<E: Encoder<T>>(
+    fn write_elements<E: EncodeMany<T>>(
         &self,
         elements: &E,
         out: &mut Vec<u8>,

@@ -20,7 +20,8 @@ ghost use Rattle.bitcode_parts.specs.Lists.{lists_of, list_columns};
 
 use crate::lists::sequence::{FromElements, Sequence, decode_each};
 use bitcode_coder::coder::{
-    Buffer, Decoder, EncodeMany, Encoder, HoldsData, MAX_VECTORED_CHUNK, NewDecoder, View, both,
+    Buffer, Decoder, EncodeMany, Encoder, HoldsColumns, HoldsData, MAX_VECTORED_CHUNK, NewDecoder,
+    View, both, encode_parts,
 };
 use bitcode_coder::column_free::ColumnFree;
 use bitcode_coder::length::{LengthDecoder, LengthEncoder};
@@ -97,43 +98,15 @@ fn push_short<I, S: Sequence, W: Part<I, S>, E: EncodeMany<S::Element>>(
 }
 
 impl<E> VecEncoder<E> {
-    // Writes the sequence that is a part of each item, one by one. Room for them was reserved.
-    fn encode_one_by_one<I, S: Sequence, W: Part<I, S>>(
-        &mut self,
-        items: &[I],
-        which: &W,
-    ) -> Result<(), Error>
-    where
-        E: EncodeMany<S::Element>,
-        requires { length items.now ≤ length_room self.old.lengths }
-        ensures joined { OnOk result
-            (JoinsEach S.data.lists S.data.shape (map (W.of which.now) items.now)
-            (list_columns (written_lengths self.old.lengths) (E.columns self.old.elements))
-            (list_columns (written_lengths self.new.lengths) (E.columns self.new.elements))) }
-        ensures room { OnOk result
-            (length_room self.old.lengths ≤ length_room self.new.lengths + length items.now) }
-        ensures form { emptied (E.columns self.new.elements) ≡ emptied
-            (E.columns self.old.elements) }
-        ensures refused { IfErr result (λ e. IsWritingRefusal e.reason
-            (OverflowsWithEach S.data.lists S.data.shape (map (W.of which.now) items.now)
-            (list_columns (written_lengths self.old.lengths) (E.columns self.old.elements)))) }
-    {
-        told_parts(items, which);
-        for item in items {
-            Encoder::<S>::encode(self, which.part(item))?;
-        }
-        Ok(())
-    }
-
-    // The same for the first items, up to a sequence of 16 elements or more. Returns how many were written: none if
-    // there is no room for so many elements.
+    // Writes the sequence that is a part of each item, up to the first one of 16 elements or more. Room for the lengths
+    // was reserved. Returns how many were written: none if there is no room for so many elements.
     fn encode_short<I, S: Sequence, W: Part<I, S>>(
         &mut self,
         items: &[I],
         which: &W,
     ) -> Result<usize, Error>
     where
-        E: EncodeMany<S::Element>,
+        E: Buffer + EncodeMany<S::Element>,
         requires chunk { length items.now ≤ MAX_VECTORED_CHUNK }
         requires room { length items.now ≤ length_room self.old.lengths }
         ensures count { IfOk result (λ n. n ≤ length items.now) }
@@ -164,7 +137,7 @@ impl<E> VecEncoder<E> {
     }
 }
 
-impl<E: Buffer> Buffer for VecEncoder<E> {
+impl<E: HoldsColumns> HoldsColumns for VecEncoder<E> {
     ghost columns = { λ e. list_columns (written_lengths e.lengths) (E.columns e.elements) };
 
     ghost room = { λ e. length_room e.lengths };
@@ -175,6 +148,10 @@ impl<E: Buffer> Buffer for VecEncoder<E> {
 
     ghost overflows = { λ e n. ⊥ };
 
+    ghost writes_free = { false };
+}
+
+impl<E: Buffer> Buffer for VecEncoder<E> {
     fn new(alloc: Global) -> Self {
         VecEncoder {
             alloc,
@@ -198,9 +175,7 @@ impl<E: Buffer> Buffer for VecEncoder<E> {
     }
 }
 
-impl<S: Sequence, E: EncodeMany<S::Element>> Encoder<S> for VecEncoder<E> {
-    ghost writes_free = { false };
-
+impl<S: Sequence, E: Buffer + EncodeMany<S::Element>> Encoder<S> for VecEncoder<E> {
     fn encode(&mut self, t: &S) -> Result<(), Error> {
         t.told();
         let count = t.element_count();
@@ -228,7 +203,7 @@ impl<S: Sequence, E: EncodeMany<S::Element>> Encoder<S> for VecEncoder<E> {
     ghost surely = { λ e n never. absurd never };
 }
 
-impl<S: Sequence, E: EncodeMany<S::Element>> EncodeMany<S> for VecEncoder<E> {
+impl<S: Sequence, E: Buffer + EncodeMany<S::Element>> EncodeMany<S> for VecEncoder<E> {
     fn encode_part_of_each<I, W: Part<I, S>>(
         &mut self,
         items: &[I],
@@ -236,11 +211,16 @@ impl<S: Sequence, E: EncodeMany<S::Element>> EncodeMany<S> for VecEncoder<E> {
         _first: &S,
     ) -> Result<(), Error> {
         if !E::is_primitive() {
-            return self.encode_one_by_one(items, which);
+            return encode_parts(self, items, which);
         }
         let done = self.encode_short(items, which)?;
-        self.encode_one_by_one(&items[done..], which)
+        encode_parts(self, &items[done..], which)
     }
+
+    ghost of_shape = { λ e. ap (two (one (lengths None) [])) (E.of_shape e.elements) ∙ sym
+        (S.items_columns []) };
+
+    ghost surely = { λ e n never. absurd never };
 }
 
 /// The decoder of sequences. It reads the lengths of all of them, and then the elements of all of them.

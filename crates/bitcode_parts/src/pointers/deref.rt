@@ -6,7 +6,7 @@ ghost use Rattle.bitcode_coder.specs.Columns.{lengths, one, two};
 
 use crate::lists::vec::VecEncoder;
 use crate::pointers::pointed::Pointed;
-use bitcode_coder::coder::{Buffer, EncodeMany, Encoder};
+use bitcode_coder::coder::{Buffer, EncodeMany, Encoder, HoldsColumns, encode_parts};
 use bitcode_coder::part::Part;
 use bitcode_memory::error::Error;
 use bitcode_shapes::shaped::Shaped;
@@ -60,7 +60,7 @@ pub struct DerefEncoder<E> {
     inner: E,
 }
 
-impl<E: Buffer> Buffer for DerefEncoder<E> {
+impl<E: HoldsColumns> HoldsColumns for DerefEncoder<E> {
     ghost columns = { λ e. E.columns e.inner };
 
     ghost room = { λ e. E.room e.inner };
@@ -71,6 +71,10 @@ impl<E: Buffer> Buffer for DerefEncoder<E> {
 
     ghost overflows = { λ e n. E.overflows e.inner n };
 
+    ghost writes_free = { E.writes_free };
+}
+
+impl<E: Buffer> Buffer for DerefEncoder<E> {
     fn new(alloc: Global) -> Self {
         DerefEncoder {
             inner: E::new(alloc),
@@ -91,8 +95,6 @@ impl<E: Buffer> Buffer for DerefEncoder<E> {
 }
 
 impl<P: Points, E: Encoder<P::Target>> Encoder<P> for DerefEncoder<E> {
-    ghost writes_free = { E.writes_free };
-
     fn encode(&mut self, t: &P) -> Result<(), Error> {
         self.inner.encode(t.target())
     }
@@ -118,11 +120,15 @@ impl<P: Points, E: EncodeMany<P::Target>> EncodeMany<P> for DerefEncoder<E> {
         self.inner
             .encode_part_of_each(items, &Pointed::<W, P>::by(which), first.target())
     }
+
+    ghost of_shape = { λ e. E.of_shape e.inner ∙ ap (λ shape. written_columns shape [])
+        (sym P.same_shape) };
+
+    ghost surely = { λ e n h. subst (λ shape. SurelyOverflows shape (E.columns e.inner) n)
+        (sym P.same_shape) (E.surely e.inner n h) };
 }
 
-impl<T: Shaped, E: EncodeMany<T>> Encoder<BoxedSlice<T>> for DerefEncoder<VecEncoder<E>> {
-    ghost writes_free = { false };
-
+impl<T: Shaped, E: Buffer + EncodeMany<T>> Encoder<BoxedSlice<T>> for DerefEncoder<VecEncoder<E>> {
     fn encode(&mut self, t: &BoxedSlice<T>) -> Result<(), Error> {
         self.inner.encode(&t.as_slice())
     }
@@ -132,11 +138,23 @@ impl<T: Shaped, E: EncodeMany<T>> Encoder<BoxedSlice<T>> for DerefEncoder<VecEnc
     ghost surely = { λ e n never. absurd never };
 }
 
-impl<T: Shaped, E: EncodeMany<T>> EncodeMany<BoxedSlice<T>> for DerefEncoder<VecEncoder<E>> {}
+impl<T: Shaped, E: Buffer + EncodeMany<T>> EncodeMany<BoxedSlice<T>>
+    for DerefEncoder<VecEncoder<E>> {
+    fn encode_part_of_each<S, W: Part<S, BoxedSlice<T>>>(
+        &mut self,
+        items: &[S],
+        which: &W,
+        _first: &BoxedSlice<T>,
+    ) -> Result<(), Error> {
+        encode_parts(self, items, which)
+    }
 
-impl<T: Shaped, E: EncodeMany<T>> Encoder<RcSlice<T>> for DerefEncoder<VecEncoder<E>> {
-    ghost writes_free = { false };
+    ghost of_shape = { λ e. ap (two (one (lengths None) [])) (E.of_shape e.inner.elements) };
 
+    ghost surely = { λ e n never. absurd never };
+}
+
+impl<T: Shaped, E: Buffer + EncodeMany<T>> Encoder<RcSlice<T>> for DerefEncoder<VecEncoder<E>> {
     fn encode(&mut self, t: &RcSlice<T>) -> Result<(), Error> {
         let items = t.as_slice();
         self.inner.encode(&items)
@@ -147,11 +165,22 @@ impl<T: Shaped, E: EncodeMany<T>> Encoder<RcSlice<T>> for DerefEncoder<VecEncode
     ghost surely = { λ e n never. absurd never };
 }
 
-impl<T: Shaped, E: EncodeMany<T>> EncodeMany<RcSlice<T>> for DerefEncoder<VecEncoder<E>> {}
+impl<T: Shaped, E: Buffer + EncodeMany<T>> EncodeMany<RcSlice<T>> for DerefEncoder<VecEncoder<E>> {
+    fn encode_part_of_each<S, W: Part<S, RcSlice<T>>>(
+        &mut self,
+        items: &[S],
+        which: &W,
+        _first: &RcSlice<T>,
+    ) -> Result<(), Error> {
+        encode_parts(self, items, which)
+    }
 
-impl<T: Shaped, E: EncodeMany<T>> Encoder<ArcSlice<T>> for DerefEncoder<VecEncoder<E>> {
-    ghost writes_free = { false };
+    ghost of_shape = { λ e. ap (two (one (lengths None) [])) (E.of_shape e.inner.elements) };
 
+    ghost surely = { λ e n never. absurd never };
+}
+
+impl<T: Shaped, E: Buffer + EncodeMany<T>> Encoder<ArcSlice<T>> for DerefEncoder<VecEncoder<E>> {
     fn encode(&mut self, t: &ArcSlice<T>) -> Result<(), Error> {
         let elements = t.as_slice();
         self.inner.encode(&elements)
@@ -162,4 +191,17 @@ impl<T: Shaped, E: EncodeMany<T>> Encoder<ArcSlice<T>> for DerefEncoder<VecEncod
     ghost surely = { λ e n never. absurd never };
 }
 
-impl<T: Shaped, E: EncodeMany<T>> EncodeMany<ArcSlice<T>> for DerefEncoder<VecEncoder<E>> {}
+impl<T: Shaped, E: Buffer + EncodeMany<T>> EncodeMany<ArcSlice<T>> for DerefEncoder<VecEncoder<E>> {
+    fn encode_part_of_each<S, W: Part<S, ArcSlice<T>>>(
+        &mut self,
+        items: &[S],
+        which: &W,
+        _first: &ArcSlice<T>,
+    ) -> Result<(), Error> {
+        encode_parts(self, items, which)
+    }
+
+    ghost of_shape = { λ e. ap (two (one (lengths None) [])) (E.of_shape e.inner.elements) };
+
+    ghost surely = { λ e n never. absurd never };
+}

@@ -11,7 +11,7 @@ use bitcode_untyped::value::Value;
 use std::alloc::Global;
 
 /// Appends the column of values of one case.
-pub fn write_leaf<T: InCase, E: Encoder<T> + Drop>(
+pub fn write_leaf<T: InCase, E: Buffer + Encoder<T> + Drop>(
     alloc: Global,
     values: &[&Value],
     out: &mut Vec<u8>,

@@ -5,7 +5,8 @@ ghost use Rattle.std.specs.Prelude.{false, true, map, refl};
 ghost use Rattle.bitcode_coder.specs.Columns.{ints, one};
 ghost use Rattle.bitcode_coder.specs.Spelling.{natural};
 
-use bitcode_coder::coder::{Buffer, EncodeMany, Encoder};
+use bitcode_coder::coder::{Buffer, EncodeMany, Encoder, HoldsColumns, encode_parts};
+use bitcode_coder::part::Part;
 use bitcode_int_columns::column_int::ColumnInt;
 use bitcode_memory::error::Error;
 use bitcode_memory::fast::{FastVec, PushUnchecked};
@@ -29,7 +30,7 @@ pub struct VariantEncoder {
     indices: FastVec<u8>,
 }
 
-impl Buffer for VariantEncoder {
+impl HoldsColumns for VariantEncoder {
     ghost use Rattle.bitcode_serde.specs.Indices.{written_indices, index_room, index_capacity};
 
     ghost columns = { λ e. one (ints 1 false) (map natural (written_indices e)) };
@@ -42,6 +43,10 @@ impl Buffer for VariantEncoder {
 
     ghost overflows = { λ e n. ⊥ };
 
+    ghost writes_free = { true };
+}
+
+impl Buffer for VariantEncoder {
     fn new(alloc: Global) -> Self {
         VariantEncoder {
             alloc,
@@ -65,8 +70,6 @@ impl Buffer for VariantEncoder {
 }
 
 impl Encoder<u8> for VariantEncoder {
-    ghost writes_free = { true };
-
     fn encode(&mut self, t: &u8) -> Result<(), Error> {
         self.indices.push_unchecked(*t);
         Ok(())
@@ -77,4 +80,17 @@ impl Encoder<u8> for VariantEncoder {
     ghost surely = { λ e n never. absurd never };
 }
 
-impl EncodeMany<u8> for VariantEncoder {}
+impl EncodeMany<u8> for VariantEncoder {
+    fn encode_part_of_each<S, W: Part<S, u8>>(
+        &mut self,
+        items: &[S],
+        which: &W,
+        _first: &u8,
+    ) -> Result<(), Error> {
+        encode_parts(self, items, which)
+    }
+
+    ghost of_shape = { λ e. refl };
+
+    ghost surely = { λ e n never. absurd never };
+}

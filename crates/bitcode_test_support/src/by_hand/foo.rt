@@ -3,7 +3,10 @@ ghost use Rattle.std.specs.Prelude.{true, min, refl, false, ◌+◌};
 ghost use Rattle.bitcode.specs.ByHand.{data_as, pairs_of, two};
 ghost use Rattle.bitcode_test_support.specs.Foo.{foo_fields};
 
-use bitcode::coder::{Buffer, ColumnFree, EncodeMany, HoldsData, NewDecoder, Result, both};
+use bitcode::coder::{
+    Buffer, ColumnFree, EncodeMany, HoldsColumns, HoldsData, NewDecoder, Result, both, encode_parts,
+};
+use bitcode::own::Part;
 use bitcode::{
     Decoder, Encoder, HasDecoder, HasEncoder, IntDecoder, IntEncoder, Shaped, StrDecoder,
     StrEncoder, TupleDecoder, View,
@@ -33,20 +36,24 @@ pub struct FooEncoder {
     y: StrEncoder,
 }
 
-impl Buffer for FooEncoder {
-    ghost columns = { λ e. two (⟦<IntEncoder<u32> as Buffer>⟧.columns e.x)
-        (⟦<StrEncoder as Buffer>⟧.columns e.y) };
+impl HoldsColumns for FooEncoder {
+    ghost columns = { λ e. two (⟦<IntEncoder<u32> as HoldsColumns>⟧.columns e.x)
+        (⟦<StrEncoder as HoldsColumns>⟧.columns e.y) };
 
-    ghost room = { λ e. min (⟦<IntEncoder<u32> as Buffer>⟧.room e.x)
-        (⟦<StrEncoder as Buffer>⟧.room e.y) };
+    ghost room = { λ e. min (⟦<IntEncoder<u32> as HoldsColumns>⟧.room e.x)
+        (⟦<StrEncoder as HoldsColumns>⟧.room e.y) };
 
-    ghost capacity = { λ e. ⟦<IntEncoder<u32> as Buffer>⟧.capacity e.x
-        + ⟦<StrEncoder as Buffer>⟧.capacity e.y };
+    ghost capacity = { λ e. ⟦<IntEncoder<u32> as HoldsColumns>⟧.capacity e.x
+        + ⟦<StrEncoder as HoldsColumns>⟧.capacity e.y };
 
     ghost surely_overflows = { λ e n. ⊥ };
 
     ghost overflows = { λ e n. ⊥ };
 
+    ghost writes_free = { false };
+}
+
+impl Buffer for FooEncoder {
     fn new(alloc: Global) -> Self {
         FooEncoder {
             x: Buffer::new(alloc),
@@ -71,8 +78,6 @@ impl Buffer for FooEncoder {
 }
 
 impl<'a> Encoder<Foo<'a>> for FooEncoder {
-    ghost writes_free = { false };
-
     fn encode(&mut self, t: &Foo<'a>) -> Result<()> {
         self.x.encode(&t.x)?;
         self.y.encode(&t.y)
@@ -83,7 +88,20 @@ impl<'a> Encoder<Foo<'a>> for FooEncoder {
     ghost surely = { λ e n h. absurd h };
 }
 
-impl<'a> EncodeMany<Foo<'a>> for FooEncoder {}
+impl<'a> EncodeMany<Foo<'a>> for FooEncoder {
+    fn encode_part_of_each<S, W: Part<S, Foo<'a>>>(
+        &mut self,
+        items: &[S],
+        which: &W,
+        _first: &Foo<'a>,
+    ) -> Result<()> {
+        encode_parts(self, items, which)
+    }
+
+    ghost of_shape = { λ e. refl };
+
+    ghost surely = { λ e n h. absurd h };
+}
 
 #[derive(Drop)]
 pub struct FooDecoder<'a> {

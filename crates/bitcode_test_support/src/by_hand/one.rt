@@ -3,7 +3,10 @@ ghost use Rattle.std.specs.Prelude.{true, refl};
 ghost use Rattle.bitcode.specs.ByHand.{data_as};
 ghost use Rattle.bitcode_test_support.specs.One.{one_again, one_field, one_found};
 
-use bitcode::coder::{Buffer, ColumnFree, EncodeMany, HoldsData, NewDecoder, Result};
+use bitcode::coder::{
+    Buffer, ColumnFree, EncodeMany, HoldsColumns, HoldsData, NewDecoder, Result, encode_parts,
+};
+use bitcode::own::Part;
 use bitcode::{
     DecodeOwned, Decoder, Encoder, HasDecoder, HasEncoder, IntDecoder, IntEncoder, Shaped, View,
 };
@@ -29,17 +32,21 @@ pub struct OneEncoder {
     a: IntEncoder<u8>,
 }
 
-impl Buffer for OneEncoder {
-    ghost columns = { λ e. ⟦<IntEncoder<u8> as Buffer>⟧.columns e.a };
+impl HoldsColumns for OneEncoder {
+    ghost columns = { λ e. ⟦<IntEncoder<u8> as HoldsColumns>⟧.columns e.a };
 
-    ghost room = { λ e. ⟦<IntEncoder<u8> as Buffer>⟧.room e.a };
+    ghost room = { λ e. ⟦<IntEncoder<u8> as HoldsColumns>⟧.room e.a };
 
-    ghost capacity = { λ e. ⟦<IntEncoder<u8> as Buffer>⟧.capacity e.a };
+    ghost capacity = { λ e. ⟦<IntEncoder<u8> as HoldsColumns>⟧.capacity e.a };
 
     ghost surely_overflows = { λ e n. ⊥ };
 
     ghost overflows = { λ e n. ⊥ };
 
+    ghost writes_free = { true };
+}
+
+impl Buffer for OneEncoder {
     fn new(alloc: Global) -> Self {
         OneEncoder {
             a: Buffer::new(alloc),
@@ -60,8 +67,6 @@ impl Buffer for OneEncoder {
 }
 
 impl Encoder<One> for OneEncoder {
-    ghost writes_free = { true };
-
     fn encode(&mut self, t: &One) -> Result<()> {
         let One::A(a) = t;
         self.a.encode(a)
@@ -72,7 +77,20 @@ impl Encoder<One> for OneEncoder {
     ghost surely = { λ e n h. absurd h };
 }
 
-impl EncodeMany<One> for OneEncoder {}
+impl EncodeMany<One> for OneEncoder {
+    fn encode_part_of_each<S, W: Part<S, One>>(
+        &mut self,
+        items: &[S],
+        which: &W,
+        _first: &One,
+    ) -> Result<()> {
+        encode_parts(self, items, which)
+    }
+
+    ghost of_shape = { λ e. refl };
+
+    ghost surely = { λ e n h. absurd h };
+}
 
 #[derive(Drop)]
 pub struct OneDecoder<'a> {

@@ -3,8 +3,10 @@ ghost use Rattle.std.specs.Prelude.{[], ◌∷◌, true, false, refl, ◌+◌};
 ghost use Rattle.bitcode.specs.ByHand.{no_columns, two, choices_of, variant_room, variants_left, variants_owned};
 ghost use Rattle.bitcode_test_support.specs.Two.{two_data};
 
-use bitcode::coder::{Buffer, ColumnFree, EncodeMany, HoldsData, NewDecoder, Result, both};
-use bitcode::own::encode_payload;
+use bitcode::coder::{
+    Buffer, ColumnFree, EncodeMany, HoldsColumns, HoldsData, NewDecoder, Result, both, encode_parts,
+};
+use bitcode::own::{Part, encode_payload};
 use bitcode::{
     DecodeOwned, Decoder, Encoder, HasDecoder, HasEncoder, IntDecoder, IntEncoder, ResultDecoder,
     Shaped, VariantDecoder, VariantEncoder, View,
@@ -36,21 +38,25 @@ pub struct TwoEncoder {
     b: IntEncoder<i8>,
 }
 
-impl Buffer for TwoEncoder {
-    ghost columns = { λ e. two (⟦<VariantEncoder<2> as Buffer>⟧.columns e.variants)
-        (two (⟦<IntEncoder<u8> as Buffer>⟧.columns e.a)
-        (two (⟦<IntEncoder<i8> as Buffer>⟧.columns e.b) no_columns)) };
+impl HoldsColumns for TwoEncoder {
+    ghost columns = { λ e. two (⟦<VariantEncoder<2> as HoldsColumns>⟧.columns e.variants)
+        (two (⟦<IntEncoder<u8> as HoldsColumns>⟧.columns e.a)
+        (two (⟦<IntEncoder<i8> as HoldsColumns>⟧.columns e.b) no_columns)) };
 
     ghost room = { λ e. variant_room e.variants };
 
-    ghost capacity = { λ e. ⟦<VariantEncoder<2> as Buffer>⟧.capacity e.variants
-        + ⟦<IntEncoder<u8> as Buffer>⟧.capacity e.a
-        + ⟦<IntEncoder<i8> as Buffer>⟧.capacity e.b };
+    ghost capacity = { λ e. ⟦<VariantEncoder<2> as HoldsColumns>⟧.capacity e.variants
+        + ⟦<IntEncoder<u8> as HoldsColumns>⟧.capacity e.a
+        + ⟦<IntEncoder<i8> as HoldsColumns>⟧.capacity e.b };
 
     ghost surely_overflows = { λ e n. ⊥ };
 
     ghost overflows = { λ e n. ⊥ };
 
+    ghost writes_free = { false };
+}
+
+impl Buffer for TwoEncoder {
     fn new(alloc: Global) -> Self {
         TwoEncoder {
             variants: Buffer::new(alloc),
@@ -77,8 +83,6 @@ impl Buffer for TwoEncoder {
 }
 
 impl Encoder<Two> for TwoEncoder {
-    ghost writes_free = { false };
-
     fn encode(&mut self, t: &Two) -> Result<()> {
         match t {
             Two::A(a) => {
@@ -97,7 +101,20 @@ impl Encoder<Two> for TwoEncoder {
     ghost surely = { λ e n h. absurd h };
 }
 
-impl EncodeMany<Two> for TwoEncoder {}
+impl EncodeMany<Two> for TwoEncoder {
+    fn encode_part_of_each<S, W: Part<S, Two>>(
+        &mut self,
+        items: &[S],
+        which: &W,
+        _first: &Two,
+    ) -> Result<()> {
+        encode_parts(self, items, which)
+    }
+
+    ghost of_shape = { λ e. refl };
+
+    ghost surely = { λ e n h. absurd h };
+}
 
 #[derive(Drop)]
 pub struct TwoDecoder<'a> {

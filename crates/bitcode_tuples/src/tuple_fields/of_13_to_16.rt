@@ -1,12 +1,10 @@
 // Written by scripts/tables/tuples.
 //! The fields of tuples of thirteen to sixteen fields, and the nested pairs that they are encoded as.
-ghost use Rattle.std.specs.Prelude.{◌≡◌, refl};
-ghost use Rattle.bitcode_tuples.specs.FieldLaws.{columns_alike, field_alike, pair_alike};
+ghost use Rattle.std.specs.Prelude.{refl};
+ghost use Rattle.bitcode_tuples.specs.FieldLaws.{field_alike, pair_alike};
 
-use crate::encoder::TupleEncoder;
 use crate::has_field::{HasField, Nth};
 use crate::struct_encoder::InFields;
-use bitcode_coder::coder::{Buffer, EncodeMany};
 use bitcode_shapes::shaped::Shaped;
 
 impl<A: Shaped, B, C, D, E, F, G, H, I, J, K, L, M> HasField<0>
@@ -166,31 +164,7 @@ impl<
     K: Shaped,
     L: Shaped,
     M: Shaped,
-    E0: Buffer + EncodeMany<A>,
-    E1: Buffer + EncodeMany<B>,
-    E2: Buffer + EncodeMany<C>,
-    E3: Buffer + EncodeMany<D>,
-    E4: Buffer + EncodeMany<E>,
-    E5: Buffer + EncodeMany<F>,
-    E6: Buffer + EncodeMany<G>,
-    E7: Buffer + EncodeMany<H>,
-    E8: Buffer + EncodeMany<I>,
-    E9: Buffer + EncodeMany<J>,
-    E10: Buffer + EncodeMany<K>,
-    E11: Buffer + EncodeMany<L>,
-    E12: Buffer + EncodeMany<M>,
-> InFields<
-    TupleEncoder<
-        TupleEncoder<
-            TupleEncoder<E0, TupleEncoder<E1, E2>>,
-            TupleEncoder<E3, TupleEncoder<E4, E5>>,
-        >,
-        TupleEncoder<
-            TupleEncoder<E6, TupleEncoder<E7, E8>>,
-            TupleEncoder<TupleEncoder<E9, E10>, TupleEncoder<E11, E12>>,
-        >,
-    >,
-> for (A, B, C, D, E, F, G, H, I, J, K, L, M) {
+> InFields for (A, B, C, D, E, F, G, H, I, J, K, L, M) {
     type Numbers = (
         ((Nth<0>, (Nth<1>, Nth<2>)), (Nth<3>, (Nth<4>, Nth<5>))),
         (
@@ -199,9 +173,9 @@ impl<
         ),
     );
 
-    type Inside = ();
+    type Inside = Self;
 
-    ghost same_columns = { columns_alike refl };
+    ghost same_columns = { refl };
 
     ghost of_fields = { λ d h. h };
 
@@ -381,32 +355,7 @@ impl<
     L: Shaped,
     M: Shaped,
     N: Shaped,
-    E0: Buffer + EncodeMany<A>,
-    E1: Buffer + EncodeMany<B>,
-    E2: Buffer + EncodeMany<C>,
-    E3: Buffer + EncodeMany<D>,
-    E4: Buffer + EncodeMany<E>,
-    E5: Buffer + EncodeMany<F>,
-    E6: Buffer + EncodeMany<G>,
-    E7: Buffer + EncodeMany<H>,
-    E8: Buffer + EncodeMany<I>,
-    E9: Buffer + EncodeMany<J>,
-    E10: Buffer + EncodeMany<K>,
-    E11: Buffer + EncodeMany<L>,
-    E12: Buffer + EncodeMany<M>,
-    E13: Buffer + EncodeMany<N>,
-> InFields<
-    TupleEncoder<
-        TupleEncoder<
-            TupleEncoder<E0, TupleEncoder<E1, E2>>,
-            TupleEncoder<TupleEncoder<E3, E4>, TupleEncoder<E5, E6>>,
-        >,
-        TupleEncoder<
-            TupleEncoder<E7, TupleEncoder<E8, E9>>,
-            TupleEncoder<TupleEncoder<E10, E11>, TupleEncoder<E12, E13>>,
-        >,
-    >,
-> for (A, B, C, D, E, F, G, H, I, J, K, L, M, N) {
+> InFields for (A, B, C, D, E, F, G, H, I, J, K, L, M, N) {
     type Numbers = (
         (
             (Nth<0>, (Nth<1>, Nth<2>)),
@@ -418,9 +367,9 @@ impl<
         ),
     );
 
-    type Inside = ();
+    type Inside = Self;
 
-    ghost same_columns = { columns_alike refl };
+    ghost same_columns = { refl };
 
     ghost of_fields = { λ d h. h };
 
@@ -612,33 +561,7 @@ impl<
     M: Shaped,
     N: Shaped,
     O: Shaped,
-    E0: Buffer + EncodeMany<A>,
-    E1: Buffer + EncodeMany<B>,
-    E2: Buffer + EncodeMany<C>,
-    E3: Buffer + EncodeMany<D>,
-    E4: Buffer + EncodeMany<E>,
-    E5: Buffer + EncodeMany<F>,
-    E6: Buffer + EncodeMany<G>,
-    E7: Buffer + EncodeMany<H>,
-    E8: Buffer + EncodeMany<I>,
-    E9: Buffer + EncodeMany<J>,
-    E10: Buffer + EncodeMany<K>,
-    E11: Buffer + EncodeMany<L>,
-    E12: Buffer + EncodeMany<M>,
-    E13: Buffer + EncodeMany<N>,
-    E14: Buffer + EncodeMany<O>,
-> InFields<
-    TupleEncoder<
-        TupleEncoder<
-            TupleEncoder<E0, TupleEncoder<E1, E2>>,
-            TupleEncoder<TupleEncoder<E3, E4>, TupleEncoder<E5, E6>>,
-        >,
-        TupleEncoder<
-            TupleEncoder<TupleEncoder<E7, E8>, TupleEncoder<E9, E10>>,
-            TupleEncoder<TupleEncoder<E11, E12>, TupleEncoder<E13, E14>>,
-        >,
-    >,
-> for (A, B, C, D, E, F, G, H, I, J, K, L, M, N, O) {
+> InFields for (A, B, C, D, E, F, G, H, I, J, K, L, M, N, O) {
     type Numbers = (
         (
             (Nth<0>, (Nth<1>, Nth<2>)),
@@ -650,9 +573,9 @@ impl<
         ),
     );
 
-    type Inside = ();
+    type Inside = Self;
 
-    ghost same_columns = { columns_alike refl };
+    ghost same_columns = { refl };
 
     ghost of_fields = { λ d h. h };
 
@@ -857,34 +780,7 @@ impl<
     N: Shaped,
     O: Shaped,
     P: Shaped,
-    E0: Buffer + EncodeMany<A>,
-    E1: Buffer + EncodeMany<B>,
-    E2: Buffer + EncodeMany<C>,
-    E3: Buffer + EncodeMany<D>,
-    E4: Buffer + EncodeMany<E>,
-    E5: Buffer + EncodeMany<F>,
-    E6: Buffer + EncodeMany<G>,
-    E7: Buffer + EncodeMany<H>,
-    E8: Buffer + EncodeMany<I>,
-    E9: Buffer + EncodeMany<J>,
-    E10: Buffer + EncodeMany<K>,
-    E11: Buffer + EncodeMany<L>,
-    E12: Buffer + EncodeMany<M>,
-    E13: Buffer + EncodeMany<N>,
-    E14: Buffer + EncodeMany<O>,
-    E15: Buffer + EncodeMany<P>,
-> InFields<
-    TupleEncoder<
-        TupleEncoder<
-            TupleEncoder<TupleEncoder<E0, E1>, TupleEncoder<E2, E3>>,
-            TupleEncoder<TupleEncoder<E4, E5>, TupleEncoder<E6, E7>>,
-        >,
-        TupleEncoder<
-            TupleEncoder<TupleEncoder<E8, E9>, TupleEncoder<E10, E11>>,
-            TupleEncoder<TupleEncoder<E12, E13>, TupleEncoder<E14, E15>>,
-        >,
-    >,
-> for (A, B, C, D, E, F, G, H, I, J, K, L, M, N, O, P) {
+> InFields for (A, B, C, D, E, F, G, H, I, J, K, L, M, N, O, P) {
     type Numbers = (
         (
             ((Nth<0>, Nth<1>), (Nth<2>, Nth<3>)),
@@ -896,9 +792,9 @@ impl<
         ),
     );
 
-    type Inside = ();
+    type Inside = Self;
 
-    ghost same_columns = { columns_alike refl };
+    ghost same_columns = { refl };
 
     ghost of_fields = { λ d h. h };
 

@@ -1,12 +1,10 @@
 // Written by scripts/tables/tuples.
 //! The fields of tuples of three to eight fields, and the nested pairs that they are encoded as.
-ghost use Rattle.std.specs.Prelude.{◌≡◌, refl};
-ghost use Rattle.bitcode_tuples.specs.FieldLaws.{columns_alike, field_alike, pair_alike};
+ghost use Rattle.std.specs.Prelude.{refl};
+ghost use Rattle.bitcode_tuples.specs.FieldLaws.{field_alike, pair_alike};
 
-use crate::encoder::TupleEncoder;
 use crate::has_field::{HasField, Nth};
 use crate::struct_encoder::InFields;
-use bitcode_coder::coder::{Buffer, EncodeMany};
 use bitcode_shapes::shaped::Shaped;
 
 impl<A: Shaped, B, C> HasField<0> for (A, B, C) {
@@ -39,19 +37,12 @@ impl<A, B, C: Shaped> HasField<2> for (A, B, C) {
     }
 }
 
-impl<
-    A: Shaped,
-    B: Shaped,
-    C: Shaped,
-    E0: Buffer + EncodeMany<A>,
-    E1: Buffer + EncodeMany<B>,
-    E2: Buffer + EncodeMany<C>,
-> InFields<TupleEncoder<E0, TupleEncoder<E1, E2>>> for (A, B, C) {
+impl<A: Shaped, B: Shaped, C: Shaped> InFields for (A, B, C) {
     type Numbers = (Nth<0>, (Nth<1>, Nth<2>));
 
-    type Inside = ();
+    type Inside = Self;
 
-    ghost same_columns = { columns_alike refl };
+    ghost same_columns = { refl };
 
     ghost of_fields = { λ d h. h };
 
@@ -98,21 +89,12 @@ impl<A, B, C, D: Shaped> HasField<3> for (A, B, C, D) {
     }
 }
 
-impl<
-    A: Shaped,
-    B: Shaped,
-    C: Shaped,
-    D: Shaped,
-    E0: Buffer + EncodeMany<A>,
-    E1: Buffer + EncodeMany<B>,
-    E2: Buffer + EncodeMany<C>,
-    E3: Buffer + EncodeMany<D>,
-> InFields<TupleEncoder<TupleEncoder<E0, E1>, TupleEncoder<E2, E3>>> for (A, B, C, D) {
+impl<A: Shaped, B: Shaped, C: Shaped, D: Shaped> InFields for (A, B, C, D) {
     type Numbers = ((Nth<0>, Nth<1>), (Nth<2>, Nth<3>));
 
-    type Inside = ();
+    type Inside = Self;
 
-    ghost same_columns = { columns_alike refl };
+    ghost same_columns = { refl };
 
     ghost of_fields = { λ d h. h };
 
@@ -170,24 +152,12 @@ impl<A, B, C, D, E: Shaped> HasField<4> for (A, B, C, D, E) {
     }
 }
 
-impl<
-    A: Shaped,
-    B: Shaped,
-    C: Shaped,
-    D: Shaped,
-    E: Shaped,
-    E0: Buffer + EncodeMany<A>,
-    E1: Buffer + EncodeMany<B>,
-    E2: Buffer + EncodeMany<C>,
-    E3: Buffer + EncodeMany<D>,
-    E4: Buffer + EncodeMany<E>,
-> InFields<TupleEncoder<TupleEncoder<E0, E1>, TupleEncoder<E2, TupleEncoder<E3, E4>>>>
-    for (A, B, C, D, E) {
+impl<A: Shaped, B: Shaped, C: Shaped, D: Shaped, E: Shaped> InFields for (A, B, C, D, E) {
     type Numbers = ((Nth<0>, Nth<1>), (Nth<2>, (Nth<3>, Nth<4>)));
 
-    type Inside = ();
+    type Inside = Self;
 
-    ghost same_columns = { columns_alike refl };
+    ghost same_columns = { refl };
 
     ghost of_fields = { λ d h. h };
 
@@ -255,27 +225,13 @@ impl<A, B, C, D, E, F: Shaped> HasField<5> for (A, B, C, D, E, F) {
     }
 }
 
-impl<
-    A: Shaped,
-    B: Shaped,
-    C: Shaped,
-    D: Shaped,
-    E: Shaped,
-    F: Shaped,
-    E0: Buffer + EncodeMany<A>,
-    E1: Buffer + EncodeMany<B>,
-    E2: Buffer + EncodeMany<C>,
-    E3: Buffer + EncodeMany<D>,
-    E4: Buffer + EncodeMany<E>,
-    E5: Buffer + EncodeMany<F>,
-> InFields<
-    TupleEncoder<TupleEncoder<E0, TupleEncoder<E1, E2>>, TupleEncoder<E3, TupleEncoder<E4, E5>>>,
-> for (A, B, C, D, E, F) {
+impl<A: Shaped, B: Shaped, C: Shaped, D: Shaped, E: Shaped, F: Shaped> InFields
+    for (A, B, C, D, E, F) {
     type Numbers = ((Nth<0>, (Nth<1>, Nth<2>)), (Nth<3>, (Nth<4>, Nth<5>)));
 
-    type Inside = ();
+    type Inside = Self;
 
-    ghost same_columns = { columns_alike refl };
+    ghost same_columns = { refl };
 
     ghost of_fields = { λ d h. h };
 
@@ -354,35 +310,16 @@ impl<A, B, C, D, E, F, G: Shaped> HasField<6> for (A, B, C, D, E, F, G) {
     }
 }
 
-impl<
-    A: Shaped,
-    B: Shaped,
-    C: Shaped,
-    D: Shaped,
-    E: Shaped,
-    F: Shaped,
-    G: Shaped,
-    E0: Buffer + EncodeMany<A>,
-    E1: Buffer + EncodeMany<B>,
-    E2: Buffer + EncodeMany<C>,
-    E3: Buffer + EncodeMany<D>,
-    E4: Buffer + EncodeMany<E>,
-    E5: Buffer + EncodeMany<F>,
-    E6: Buffer + EncodeMany<G>,
-> InFields<
-    TupleEncoder<
-        TupleEncoder<E0, TupleEncoder<E1, E2>>,
-        TupleEncoder<TupleEncoder<E3, E4>, TupleEncoder<E5, E6>>,
-    >,
-> for (A, B, C, D, E, F, G) {
+impl<A: Shaped, B: Shaped, C: Shaped, D: Shaped, E: Shaped, F: Shaped, G: Shaped> InFields
+    for (A, B, C, D, E, F, G) {
     type Numbers = (
         (Nth<0>, (Nth<1>, Nth<2>)),
         ((Nth<3>, Nth<4>), (Nth<5>, Nth<6>)),
     );
 
-    type Inside = ();
+    type Inside = Self;
 
-    ghost same_columns = { columns_alike refl };
+    ghost same_columns = { refl };
 
     ghost of_fields = { λ d h. h };
 
@@ -480,28 +417,15 @@ impl<
     F: Shaped,
     G: Shaped,
     H: Shaped,
-    E0: Buffer + EncodeMany<A>,
-    E1: Buffer + EncodeMany<B>,
-    E2: Buffer + EncodeMany<C>,
-    E3: Buffer + EncodeMany<D>,
-    E4: Buffer + EncodeMany<E>,
-    E5: Buffer + EncodeMany<F>,
-    E6: Buffer + EncodeMany<G>,
-    E7: Buffer + EncodeMany<H>,
-> InFields<
-    TupleEncoder<
-        TupleEncoder<TupleEncoder<E0, E1>, TupleEncoder<E2, E3>>,
-        TupleEncoder<TupleEncoder<E4, E5>, TupleEncoder<E6, E7>>,
-    >,
-> for (A, B, C, D, E, F, G, H) {
+> InFields for (A, B, C, D, E, F, G, H) {
     type Numbers = (
         ((Nth<0>, Nth<1>), (Nth<2>, Nth<3>)),
         ((Nth<4>, Nth<5>), (Nth<6>, Nth<7>)),
     );
 
-    type Inside = ();
+    type Inside = Self;
 
-    ghost same_columns = { columns_alike refl };
+    ghost same_columns = { refl };
 
     ghost of_fields = { λ d h. h };
 

@@ -1,12 +1,10 @@
 // Written by scripts/tables/tuples.
 //! The fields of tuples of nine to twelve fields, and the nested pairs that they are encoded as.
-ghost use Rattle.std.specs.Prelude.{◌≡◌, refl};
-ghost use Rattle.bitcode_tuples.specs.FieldLaws.{columns_alike, field_alike, pair_alike};
+ghost use Rattle.std.specs.Prelude.{refl};
+ghost use Rattle.bitcode_tuples.specs.FieldLaws.{field_alike, pair_alike};
 
-use crate::encoder::TupleEncoder;
 use crate::has_field::{HasField, Nth};
 use crate::struct_encoder::InFields;
-use bitcode_coder::coder::{Buffer, EncodeMany};
 use bitcode_shapes::shaped::Shaped;
 
 impl<A: Shaped, B, C, D, E, F, G, H, I> HasField<0> for (A, B, C, D, E, F, G, H, I) {
@@ -109,29 +107,15 @@ impl<
     G: Shaped,
     H: Shaped,
     I: Shaped,
-    E0: Buffer + EncodeMany<A>,
-    E1: Buffer + EncodeMany<B>,
-    E2: Buffer + EncodeMany<C>,
-    E3: Buffer + EncodeMany<D>,
-    E4: Buffer + EncodeMany<E>,
-    E5: Buffer + EncodeMany<F>,
-    E6: Buffer + EncodeMany<G>,
-    E7: Buffer + EncodeMany<H>,
-    E8: Buffer + EncodeMany<I>,
-> InFields<
-    TupleEncoder<
-        TupleEncoder<TupleEncoder<E0, E1>, TupleEncoder<E2, E3>>,
-        TupleEncoder<TupleEncoder<E4, E5>, TupleEncoder<E6, TupleEncoder<E7, E8>>>,
-    >,
-> for (A, B, C, D, E, F, G, H, I) {
+> InFields for (A, B, C, D, E, F, G, H, I) {
     type Numbers = (
         ((Nth<0>, Nth<1>), (Nth<2>, Nth<3>)),
         ((Nth<4>, Nth<5>), (Nth<6>, (Nth<7>, Nth<8>))),
     );
 
-    type Inside = ();
+    type Inside = Self;
 
-    ghost same_columns = { columns_alike refl };
+    ghost same_columns = { refl };
 
     ghost of_fields = { λ d h. h };
 
@@ -252,30 +236,15 @@ impl<
     H: Shaped,
     I: Shaped,
     J: Shaped,
-    E0: Buffer + EncodeMany<A>,
-    E1: Buffer + EncodeMany<B>,
-    E2: Buffer + EncodeMany<C>,
-    E3: Buffer + EncodeMany<D>,
-    E4: Buffer + EncodeMany<E>,
-    E5: Buffer + EncodeMany<F>,
-    E6: Buffer + EncodeMany<G>,
-    E7: Buffer + EncodeMany<H>,
-    E8: Buffer + EncodeMany<I>,
-    E9: Buffer + EncodeMany<J>,
-> InFields<
-    TupleEncoder<
-        TupleEncoder<TupleEncoder<E0, E1>, TupleEncoder<E2, TupleEncoder<E3, E4>>>,
-        TupleEncoder<TupleEncoder<E5, E6>, TupleEncoder<E7, TupleEncoder<E8, E9>>>,
-    >,
-> for (A, B, C, D, E, F, G, H, I, J) {
+> InFields for (A, B, C, D, E, F, G, H, I, J) {
     type Numbers = (
         ((Nth<0>, Nth<1>), (Nth<2>, (Nth<3>, Nth<4>))),
         ((Nth<5>, Nth<6>), (Nth<7>, (Nth<8>, Nth<9>))),
     );
 
-    type Inside = ();
+    type Inside = Self;
 
-    ghost same_columns = { columns_alike refl };
+    ghost same_columns = { refl };
 
     ghost of_fields = { λ d h. h };
 
@@ -408,34 +377,15 @@ impl<
     I: Shaped,
     J: Shaped,
     K: Shaped,
-    E0: Buffer + EncodeMany<A>,
-    E1: Buffer + EncodeMany<B>,
-    E2: Buffer + EncodeMany<C>,
-    E3: Buffer + EncodeMany<D>,
-    E4: Buffer + EncodeMany<E>,
-    E5: Buffer + EncodeMany<F>,
-    E6: Buffer + EncodeMany<G>,
-    E7: Buffer + EncodeMany<H>,
-    E8: Buffer + EncodeMany<I>,
-    E9: Buffer + EncodeMany<J>,
-    E10: Buffer + EncodeMany<K>,
-> InFields<
-    TupleEncoder<
-        TupleEncoder<TupleEncoder<E0, E1>, TupleEncoder<E2, TupleEncoder<E3, E4>>>,
-        TupleEncoder<
-            TupleEncoder<E5, TupleEncoder<E6, E7>>,
-            TupleEncoder<E8, TupleEncoder<E9, E10>>,
-        >,
-    >,
-> for (A, B, C, D, E, F, G, H, I, J, K) {
+> InFields for (A, B, C, D, E, F, G, H, I, J, K) {
     type Numbers = (
         ((Nth<0>, Nth<1>), (Nth<2>, (Nth<3>, Nth<4>))),
         ((Nth<5>, (Nth<6>, Nth<7>)), (Nth<8>, (Nth<9>, Nth<10>))),
     );
 
-    type Inside = ();
+    type Inside = Self;
 
-    ghost same_columns = { columns_alike refl };
+    ghost same_columns = { refl };
 
     ghost of_fields = { λ d h. h };
 
@@ -591,38 +541,15 @@ impl<
     J: Shaped,
     K: Shaped,
     L: Shaped,
-    E0: Buffer + EncodeMany<A>,
-    E1: Buffer + EncodeMany<B>,
-    E2: Buffer + EncodeMany<C>,
-    E3: Buffer + EncodeMany<D>,
-    E4: Buffer + EncodeMany<E>,
-    E5: Buffer + EncodeMany<F>,
-    E6: Buffer + EncodeMany<G>,
-    E7: Buffer + EncodeMany<H>,
-    E8: Buffer + EncodeMany<I>,
-    E9: Buffer + EncodeMany<J>,
-    E10: Buffer + EncodeMany<K>,
-    E11: Buffer + EncodeMany<L>,
-> InFields<
-    TupleEncoder<
-        TupleEncoder<
-            TupleEncoder<E0, TupleEncoder<E1, E2>>,
-            TupleEncoder<E3, TupleEncoder<E4, E5>>,
-        >,
-        TupleEncoder<
-            TupleEncoder<E6, TupleEncoder<E7, E8>>,
-            TupleEncoder<E9, TupleEncoder<E10, E11>>,
-        >,
-    >,
-> for (A, B, C, D, E, F, G, H, I, J, K, L) {
+> InFields for (A, B, C, D, E, F, G, H, I, J, K, L) {
     type Numbers = (
         ((Nth<0>, (Nth<1>, Nth<2>)), (Nth<3>, (Nth<4>, Nth<5>))),
         ((Nth<6>, (Nth<7>, Nth<8>)), (Nth<9>, (Nth<10>, Nth<11>))),
     );
 
-    type Inside = ();
+    type Inside = Self;
 
-    ghost same_columns = { columns_alike refl };
+    ghost same_columns = { refl };
 
     ghost of_fields = { λ d h. h };
 

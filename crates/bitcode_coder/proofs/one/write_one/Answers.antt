@@ -12,7 +12,7 @@ returns-in_err-reserve-clause-refused g c =
     let same = c.in_ok-write_directly.ensures.empty ∙ sym c.requires in
     rw (p.1, p.2) (
     refusal_weaker _ (λ over.
-    surely_listing g.T.Shaped.data.lists g.T.Shaped.data.shape c.args.t.now (g.E.Buffer.columns c.args.encoder.now) l.0 l.1
+    surely_listing g.T.Shaped.data.lists g.T.Shaped.data.shape c.args.t.now (g.E.HoldsColumns.columns c.args.encoder.now) l.0 l.1
     (g.T.Shaped.data.lawful.of_shape c.args.t.now l.0 c.told.ensures l.1)
     (subst (λ old. SurelyOverflows g.T.Shaped.data.shape old 1) same (g.met.E.Encoder.surely c.write_directly.new.self 1 over))) c.in_err-reserve.ensures.refused
     )

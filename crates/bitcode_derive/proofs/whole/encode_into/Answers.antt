@@ -9,7 +9,7 @@ use Rattle.bitcode_derive.proofs.whole.encode_into.Goals as goal
 
 pub returns-clause-written : goal.returns-clause-written
 returns-clause-written g c =
-    let none_yet : g.T.Encoder.Buffer.columns c.new-encoder.result ≡ written_columns g.T.Shaped.data.shape [] =
+    let none_yet : g.T.Encoder.HoldsColumns.columns c.new-encoder.result ≡ written_columns g.T.Shaped.data.shape [] =
     c.new-encoder.ensures.empty ∙ g.met.T.Encoder.Encoder.of_shape c.new-encoder.result in
     on_ok_weaker c.write_one.result
     (λ one. record {
@@ -21,6 +21,6 @@ returns-clause-written g c =
 
 pub returns-clause-refused : goal.returns-clause-refused
 returns-clause-refused g c =
-    let none_yet : g.T.Encoder.Buffer.columns c.new-encoder.result ≡ written_columns g.T.Shaped.data.shape [] =
+    let none_yet : g.T.Encoder.HoldsColumns.columns c.new-encoder.result ≡ written_columns g.T.Shaped.data.shape [] =
     c.new-encoder.ensures.empty ∙ g.met.T.Encoder.Encoder.of_shape c.new-encoder.result in
     refused_weaker (λ (e : Error). e.reason) c.write_one.result (long_listing g.T.Shaped.data.lists g.T.Shaped.data.shape c.args.t.now _ none_yet) c.write_one.ensures.refused

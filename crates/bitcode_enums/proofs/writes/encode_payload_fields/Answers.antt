@@ -14,6 +14,6 @@ returns-in_err-reserve-clause-refused g c =
     refusal_weaker _ (λ surely. record {
       datum = listed.0;
       listing = listed.1;
-      overflows = overflows_surely g.F.Whole.Shaped.data.shape (g.E.Buffer.columns c.args.columns.now) listed.0 of_shape (g.met.E.Encoder.surely c.args.columns.now 1 surely);
+      overflows = overflows_surely g.F.Whole.Shaped.data.shape (g.E.HoldsColumns.columns c.args.columns.now) listed.0 of_shape (g.met.E.Encoder.surely c.args.columns.now 1 surely);
     }) c.in_err-reserve.ensures.refused
     )

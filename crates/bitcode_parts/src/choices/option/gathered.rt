@@ -64,7 +64,7 @@ fn gather_values<'a, S, T, W: Part<S, Option<T>>>(
 
 // Reserves room for exactly the values among a part of each item, and adds them to the columns. The array of references
 // to them is not allocated: it is first filled with one of them.
-fn encode_from<'a, S, T: Shaped, W: Part<S, Option<T>>, E: EncodeMany<T>>(
+fn encode_from<'a, S, T: Shaped, W: Part<S, Option<T>>, E: Buffer + EncodeMany<T>>(
     encoder: &mut E,
     first: &'a T,
     items: &'a [S],
@@ -87,7 +87,7 @@ fn encode_from<'a, S, T: Shaped, W: Part<S, Option<T>>, E: EncodeMany<T>>(
 }
 
 // Makes room for the values among a part of each item, if there are any.
-pub(super) fn encode_values<'a, S, T: Shaped, W: Part<S, Option<T>>, E: EncodeMany<T>>(
+pub(super) fn encode_values<'a, S, T: Shaped, W: Part<S, Option<T>>, E: Buffer + EncodeMany<T>>(
     encoder: &mut E,
     items: &'a [S],
     which: &'a W,

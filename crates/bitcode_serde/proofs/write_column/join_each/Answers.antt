@@ -16,8 +16,8 @@ loop-rest-init g c = record {
 pub loop-rest-preserved : goal.loop-rest-preserved
 loop-rest-preserved g c = record {
   some =
-      some_more g.T.Case.kind c.args.values.now c.split_at.result.0.now c.split_at.result.1.now _ (g.E.Buffer.columns c.loop-rest.column) _
-      (subst (λ vs. JoinsSome g.T.Case.kind c.args.values.now vs (g.E.Buffer.columns c.reserve.new.self) (g.E.Buffer.columns c.loop-rest.column))
+      some_more g.T.Case.kind c.args.values.now c.split_at.result.0.now c.split_at.result.1.now _ (g.E.HoldsColumns.columns c.loop-rest.column) _
+      (subst (λ vs. JoinsSome g.T.Case.kind c.args.values.now vs (g.E.HoldsColumns.columns c.reserve.new.self) (g.E.HoldsColumns.columns c.loop-rest.column))
       c.split_at.ensures.by_index.0 c.loop-rest.invariant.some) c.in_ok-join_chunk.ensures.joined c.in_ok-join_chunk.ensures.entries;
   left = omega (arith, c.split_at.ensures.front_len, c.split_at.ensures.back_len, c.loop-rest.invariant.left, c.in_ok-join_chunk.ensures.room);
 }
@@ -38,7 +38,7 @@ returns-in_err-join_chunk-clause-refused g c =
       | inr away ↦ inr (
         away.0,
         some_other g.T.Case.kind c.args.values.now c.split_at.result.0.now c.split_at.result.1.now _ _
-            (subst (λ vs. JoinsSome g.T.Case.kind c.args.values.now vs (g.E.Buffer.columns c.reserve.new.self) (g.E.Buffer.columns c.loop-rest.column))
+            (subst (λ vs. JoinsSome g.T.Case.kind c.args.values.now vs (g.E.HoldsColumns.columns c.reserve.new.self) (g.E.HoldsColumns.columns c.loop-rest.column))
             c.split_at.ensures.by_index.0 c.loop-rest.invariant.some) away.1,
       )
     ])
@@ -51,7 +51,7 @@ returns-clause-joined g c =
 
 pub returns-clause-written : goal.returns-clause-written
 returns-clause-written g c =
-    entries_beside (g.E.Buffer.columns c.args.column.now) _ (kind_of g.T.Case.kind) _
+    entries_beside (g.E.HoldsColumns.columns c.args.column.now) _ (kind_of g.T.Case.kind) _
     (g.met.E.Encoder.of_shape c.args.column.now ∙ g.met.T.Case.laws.one_column []) (returns-clause-joined g c)
 
 pub returns-clause-entries : goal.returns-clause-entries

@@ -19,7 +19,7 @@ loop-value-preserved g c =
     let i = c.loop-value.value-index in
     let there = found_entry c.args.values.now i c.value-item.result c.loop-value-test.true c.value-item.is in record {
       some =
-          some_next g.T.Case.kind c.args.values.now i c.value-item.result _ (g.E.Buffer.columns c.loop-value.column) _ there
+          some_next g.T.Case.kind c.args.values.now i c.value-item.result _ (g.E.HoldsColumns.columns c.loop-value.column) _ there
           c.loop-value.invariant.some c.in_ok-join_next.ensures.joined c.in_ok-join_next.ensures.entries;
       left = omega (arith, c.loop-value.invariant.left, c.in_ok-join_next.ensures.room);
     }

@@ -4,6 +4,6 @@ use Rattle.bitcode_serde.proofs.write_column.join_in_turn.Given as goal
 
 abbrev pub invariant-loop-value : goal.invariant-loop-value
 invariant-loop-value g l = record {
-  some : JoinsSome g.T.Case.kind l.values (drop l.value-index l.values) (g.E.Buffer.columns l.initial.column) (g.E.Buffer.columns l.column);
-  left : length l.values ≤ g.E.Buffer.room l.column + l.value-index;
+  some : JoinsSome g.T.Case.kind l.values (drop l.value-index l.values) (g.E.HoldsColumns.columns l.initial.column) (g.E.HoldsColumns.columns l.column);
+  left : length l.values ≤ g.E.HoldsColumns.room l.column + l.value-index;
 }

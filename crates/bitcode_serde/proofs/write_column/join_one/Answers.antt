@@ -16,7 +16,7 @@ returns-in-Some-clause-joined g c =
 pub returns-in-Some-clause-written : goal.returns-in-Some-clause-written
 returns-in-Some-clause-written g c =
     on_ok_weaker c.join.result
-    (λ more. entries_beside (g.E.Buffer.columns c.args.column.now) _ (kind_of g.T.Case.kind) _
+    (λ more. entries_beside (g.E.HoldsColumns.columns c.args.column.now) _ (kind_of g.T.Case.kind) _
     (g.met.E.Encoder.of_shape c.args.column.now ∙ g.met.T.Case.laws.one_column []) more)
     (returns-in-Some-clause-joined g c)
 

@@ -10,4 +10,4 @@ returns g c =
     let items = c.args.items.now in
     let listed =
     each_listed g.T.Shaped.data.shape g.T.Shaped.data.is_value g.T.Shaped.data.lists g.T.Shaped.data.same g.T.Shaped.data.in_order g.T.Shaped.data.lawful (map of items) c.told_parts.ensures in
-    (listed.0, each_listed_as of (λ t. t) g.T.Shaped.data.lists g.E.PartEncoder.lists (λ t. (g.met.T.InFields.same_listings t).to) items listed.0 listed.1)
+    (listed.0, each_listed_as of (λ t. t) g.T.Shaped.data.lists g.T.Numbers.PartOf.lists (λ t. (g.met.T.InFields.same_listings t).to) items listed.0 listed.1)

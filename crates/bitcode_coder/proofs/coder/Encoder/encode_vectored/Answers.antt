@@ -10,7 +10,7 @@ use Rattle.bitcode_coder.proofs.coder.Encoder.encode_vectored.Goals as goal
 
 pub loop-value-init : goal.loop-value-init
 loop-value-init g c = record {
-  front = front_none g.T.Shaped.data.lists g.T.Shaped.data.shape (g.Self.Buffer.columns c.args.self.now) (g.met.Self.Encoder.of_shape c.args.self.now) (map (λ value. value.now) c.args.values.now);
+  front = front_none g.T.Shaped.data.lists g.T.Shaped.data.shape (g.Self.HoldsColumns.columns c.args.self.now) (g.met.Self.Encoder.of_shape c.args.self.now) (map (λ value. value.now) c.args.values.now);
   room = omega arith;
   form = refl;
 }
@@ -25,8 +25,8 @@ returns-in_err-encode-clause-refused g c =
     let shape = g.T.Shaped.data.shape in
     let whole = map (λ value. value.now) c.args.values.now in
     let rest = map (λ value. value.now) (drop (c.loop-value.value-index + 1) c.args.values.now) in
-    let old = g.Self.Buffer.columns c.args.self.now in
-    let now = g.Self.Buffer.columns c.loop-value.self in
+    let old = g.Self.HoldsColumns.columns c.args.self.now in
+    let now = g.Self.HoldsColumns.columns c.loop-value.self in
     let step = next_behind (λ value. value.now) c.args.values.now c.loop-value.value-index c.value-item.result c.loop-value-test.true c.value-item.is in
     let others =
     each_listed shape g.T.Shaped.data.is_value lists g.T.Shaped.data.same g.T.Shaped.data.in_order g.T.Shaped.data.lawful rest
@@ -44,12 +44,12 @@ loop-value-preserved g c =
     let shape = g.T.Shaped.data.shape in
     let whole = map (λ value. value.now) c.args.values.now in
     let rest = map (λ value. value.now) (drop (c.loop-value.value-index + 1) c.args.values.now) in
-    let old = g.Self.Buffer.columns c.args.self.now in
-    let now = g.Self.Buffer.columns c.loop-value.self in
+    let old = g.Self.HoldsColumns.columns c.args.self.now in
+    let now = g.Self.HoldsColumns.columns c.loop-value.self in
     let step = next_behind (λ value. value.now) c.args.values.now c.loop-value.value-index c.value-item.result c.loop-value-test.true c.value-item.is in
     record {
       front =
-          front_more lists shape old (g.met.Self.Encoder.of_shape c.args.self.now) whole rest c.value-item.result.now now (g.Self.Buffer.columns c.encode.new.self)
+          front_more lists shape old (g.met.Self.Encoder.of_shape c.args.self.now) whole rest c.value-item.result.now now (g.Self.HoldsColumns.columns c.encode.new.self)
           (subst (λ items. JoinsFront lists shape whole items old now) step c.loop-value.invariant.front) c.in_ok-encode.ensures.joined;
       room = omega (arith, c.loop-value.invariant.room, c.in_ok-encode.ensures.room);
       form = c.encode.ensures.form ∙ c.loop-value.invariant.form;
@@ -57,8 +57,8 @@ loop-value-preserved g c =
 
 pub returns-clause-joined : goal.returns-clause-joined
 returns-clause-joined g c =
-    front_whole g.T.Shaped.data.lists g.T.Shaped.data.shape (g.Self.Buffer.columns c.args.self.now) (g.met.Self.Encoder.of_shape c.args.self.now)
-    (map (λ value. value.now) c.args.values.now) (map (λ value. value.now) (drop c.loop-value.value-index c.args.values.now)) (g.Self.Buffer.columns c.loop-value.self)
+    front_whole g.T.Shaped.data.lists g.T.Shaped.data.shape (g.Self.HoldsColumns.columns c.args.self.now) (g.met.Self.Encoder.of_shape c.args.self.now)
+    (map (λ value. value.now) c.args.values.now) (map (λ value. value.now) (drop c.loop-value.value-index c.args.values.now)) (g.Self.HoldsColumns.columns c.loop-value.self)
     c.loop-value.invariant.front (at_drop_all (map (λ value. value.now)) c.args.values.now c.loop-value.value-index (omega (arith, c.loop-value-test.false)))
 
 pub returns-clause-room : goal.returns-clause-room

@@ -13,7 +13,7 @@ write_one-requires g c =
 pub returns-in_err-write_one : goal.returns-in_err-write_one
 returns-in_err-write_one g c =
     let p = err_from_is_err_and c.from_residual.result c.from_residual.ensures.1 in
-    let none_yet : g.T.Encoder.Buffer.columns c.clear.new.self ≡ written_columns g.T.Shaped.data.shape [] =
+    let none_yet : g.T.Encoder.HoldsColumns.columns c.clear.new.self ≡ written_columns g.T.Shaped.data.shape [] =
     c.clear.ensures.empty ∙ g.met.T.Encoder.Encoder.of_shape c.args.self.now.encoder in
     rw (p.1, p.2)
     (record {
@@ -24,7 +24,7 @@ returns-in_err-write_one g c =
 pub returns : goal.returns
 returns g c =
     let one = c.in_ok-write_one.ensures.written in
-    let none_yet : g.T.Encoder.Buffer.columns c.clear.new.self ≡ written_columns g.T.Shaped.data.shape [] =
+    let none_yet : g.T.Encoder.HoldsColumns.columns c.clear.new.self ≡ written_columns g.T.Shaped.data.shape [] =
     c.clear.ensures.empty ∙ g.met.T.Encoder.Encoder.of_shape c.args.self.now.encoder in
     record {
       written =

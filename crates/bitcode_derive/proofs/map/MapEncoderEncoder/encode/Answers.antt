@@ -24,8 +24,8 @@ returns-in_err-reserve-clause-refused g c =
     let entries = g.M.Mapping.entries c.args.t.now in
     let keys = g.M.Key.Shaped.data in
     let values = g.M.Value.Shaped.data in
-    let old_keys = g.K.Buffer.columns c.args.self.now.keys in
-    let old_values = g.V.Buffer.columns c.args.self.now.values in
+    let old_keys = g.K.HoldsColumns.columns c.args.self.now.keys in
+    let old_values = g.V.HoldsColumns.columns c.args.self.now.values in
     let are = g.met.M.Mapping.entries_are c.args.t.now c.told.ensures in
     let others = each_listed values.shape values.is_value values.lists values.same values.in_order g.M.Value.Shaped.data.lawful (values_of entries) (values_are keys.is_value values.is_value entries are) in
     rw (refused.1, refused.2) (
@@ -33,8 +33,8 @@ returns-in_err-reserve-clause-refused g c =
     overflows_keys keys.shape values.shape keys.lists values.lists g.M.Shaped.data.lists g.M.Shaped.data.shape g.met.M.Mapping.entries_shape c.args.t.now entries
     (g.met.M.Mapping.entries_list c.args.t.now) (written_lengths c.args.self.now.lengths) old_keys old_values others.0 others.1
     (overflows_surely keys.lists keys.shape (keys_of entries) keys.is_value keys.same keys.in_order g.M.Key.Shaped.data.lawful (keys_are keys.is_value values.is_value entries are) old_keys
-    (g.met.K.Encoder.surely c.args.self.now.keys (length (keys_of entries))
-    (subst (λ n. g.K.Buffer.surely_overflows c.args.self.now.keys n) (c.entry_count-count.ensures ∙ sym (length-map entries (λ e. e.0))) surely))))
+    (g.met.K.EncodeMany.surely c.args.self.now.keys (length (keys_of entries))
+    (subst (λ n. g.K.HoldsColumns.surely_overflows c.args.self.now.keys n) (c.entry_count-count.ensures ∙ sym (length-map entries (λ e. e.0))) surely))))
     c.in_err-reserve.ensures.refused
     )
 
@@ -44,8 +44,8 @@ returns-in_err-reserve-2-clause-refused g c =
     let entries = g.M.Mapping.entries c.args.t.now in
     let keys = g.M.Key.Shaped.data in
     let values = g.M.Value.Shaped.data in
-    let old_keys = g.K.Buffer.columns c.args.self.now.keys in
-    let old_values = g.V.Buffer.columns c.args.self.now.values in
+    let old_keys = g.K.HoldsColumns.columns c.args.self.now.keys in
+    let old_values = g.V.HoldsColumns.columns c.args.self.now.values in
     let are = g.met.M.Mapping.entries_are c.args.t.now c.told.ensures in
     let others = each_listed keys.shape keys.is_value keys.lists keys.same keys.in_order g.M.Key.Shaped.data.lawful (keys_of entries) (keys_are keys.is_value values.is_value entries are) in
     rw (refused.1, refused.2) (
@@ -54,8 +54,8 @@ returns-in_err-reserve-2-clause-refused g c =
     (g.met.M.Mapping.entries_list c.args.t.now) (written_lengths c.args.self.now.lengths) old_keys old_values others.0 others.1
     (overflows_surely values.lists values.shape (values_of entries) values.is_value values.same values.in_order g.M.Value.Shaped.data.lawful
     (values_are keys.is_value values.is_value entries are) old_values
-    (g.met.V.Encoder.surely c.args.self.now.values (length (values_of entries))
-    (subst (λ n. g.V.Buffer.surely_overflows c.args.self.now.values n) (c.entry_count-count.ensures ∙ sym (length-map entries (λ e. e.1))) surely))))
+    (g.met.V.EncodeMany.surely c.args.self.now.values (length (values_of entries))
+    (subst (λ n. g.V.HoldsColumns.surely_overflows c.args.self.now.values n) (c.entry_count-count.ensures ∙ sym (length-map entries (λ e. e.1))) surely))))
     c.in_err-reserve-2.ensures.refused
     )
 
@@ -64,8 +64,8 @@ returns-clause-joined g c =
     let entries = g.M.Mapping.entries c.args.t.now in
     on_ok_both c.encode_pairs.result (
     joins_map g.M.Key.Shaped.data.shape g.M.Value.Shaped.data.shape g.M.Key.Shaped.data.lists g.M.Value.Shaped.data.lists g.M.Shaped.data.lists g.M.Shaped.data.shape g.met.M.Mapping.entries_shape c.args.t.now entries
-    (g.met.M.Mapping.entries_list c.args.t.now) (written_lengths c.args.self.now.lengths) (g.K.Buffer.columns c.args.self.now.keys) (g.V.Buffer.columns c.args.self.now.values)
-    (written_lengths c.encode.new.self) (g.K.Buffer.columns c.encode_pairs.new.keys) (g.V.Buffer.columns c.encode_pairs.new.values)
+    (g.met.M.Mapping.entries_list c.args.t.now) (written_lengths c.args.self.now.lengths) (g.K.HoldsColumns.columns c.args.self.now.keys) (g.V.HoldsColumns.columns c.args.self.now.values)
+    (written_lengths c.encode.new.self) (g.K.HoldsColumns.columns c.encode_pairs.new.keys) (g.V.HoldsColumns.columns c.encode_pairs.new.values)
     (rw c.entry_count-count.ensures at c.in_ok-encode.ensures.written))
     (rw c.in_ok-reserve.ensures.columns at c.encode_pairs.ensures.keys) (rw c.in_ok-reserve-2.ensures.columns at c.encode_pairs.ensures.values)
 
@@ -75,8 +75,8 @@ returns-clause-refused g c =
     let keys = g.M.Key.Shaped.data in
     let values = g.M.Value.Shaped.data in
     let old_lengths = written_lengths c.args.self.now.lengths in
-    let old_keys = g.K.Buffer.columns c.args.self.now.keys in
-    let old_values = g.V.Buffer.columns c.args.self.now.values in
+    let old_keys = g.K.HoldsColumns.columns c.args.self.now.keys in
+    let old_values = g.V.HoldsColumns.columns c.args.self.now.values in
     let are = g.met.M.Mapping.entries_are c.args.t.now c.told.ensures in
     let other_keys = each_listed keys.shape keys.is_value keys.lists keys.same keys.in_order g.M.Key.Shaped.data.lawful (keys_of entries) (keys_are keys.is_value values.is_value entries are) in
     let other_values = each_listed values.shape values.is_value values.lists values.same values.in_order g.M.Value.Shaped.data.lawful (values_of entries) (values_are keys.is_value values.is_value entries are) in

@@ -8,7 +8,7 @@ use Rattle.bitcode_parts.proofs.arrays.ArrayEncoderBuffer.reserve.Goals as goal
 pub returns-in_err-_elements-clause-succeeds : goal.returns-in_err-_elements-clause-succeeds
 returns-in_err-_elements-clause-succeeds g c room =
     let few : (c.args.self.now.count + c.args.n) * g.row.N < 2 ^ 64 =
-    array_room-count g.row.N c.args.self.now.count c.args.n (g.E.Buffer.room c.args.self.now.elements) room c.args.self.now.fits in
+    array_room-count g.row.N c.args.self.now.count c.args.n (g.E.HoldsColumns.room c.args.self.now.elements) room c.args.self.now.fits in
     let overflows = c.in_err-_elements.ensures.refused.0 (refl {a = true}) in
     let sum = c.in-Some.ensures in
     absurd (grind (arith, few, overflows, sum))
@@ -19,7 +19,7 @@ returns-clause-ok g c =
     let sum = c.in-Some.ensures in
     let fits : (c.args.self.now.count + c.args.n) * g.row.N < 2 ^ 64 = grind (arith, over, sum) in
     on_ok_weaker c.reserve.result
-    (array_room-enough g.row.N c.args.self.now.count c.args.n (g.E.Buffer.room c.reserve.new.self) c.ranges.n.fits fits)
+    (array_room-enough g.row.N c.args.self.now.count c.args.n (g.E.HoldsColumns.room c.reserve.new.self) c.ranges.n.fits fits)
     c.reserve.ensures.ok
 
 pub returns-clause-grows : goal.returns-clause-grows

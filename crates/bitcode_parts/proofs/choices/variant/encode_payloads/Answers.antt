@@ -11,12 +11,12 @@ pub returns-in_err-reserve-clause-refused : goal.returns-in_err-reserve-clause-r
 returns-in_err-reserve-clause-refused g c =
     let refused = err_from_is_err_and c.from_residual.result c.from_residual.ensures.1 in
     let several = c.args.several.now in
-    let old = g.E.Buffer.columns c.args.encoder.now in
+    let old = g.E.HoldsColumns.columns c.args.encoder.now in
     rw (refused.1, refused.2) (
     refusal_weaker _ (λ surely.
     overflows_surely g.T.Shaped.data.lists g.T.Shaped.data.shape (map (λ t. t.now) several) g.T.Shaped.data.is_value g.T.Shaped.data.same g.T.Shaped.data.in_order g.T.Shaped.data.lawful
     (All-map g.T.Shaped.data.is_value (λ t. t.now) several c.told_behind.ensures) old
-    (g.met.E.Encoder.surely c.args.encoder.now (length (map (λ t. t.now) several))
-    (subst (λ n. g.E.Buffer.surely_overflows c.args.encoder.now n) (sym (length-map several (λ t. t.now))) surely)))
+    (g.met.E.EncodeMany.surely c.args.encoder.now (length (map (λ t. t.now) several))
+    (subst (λ n. g.E.HoldsColumns.surely_overflows c.args.encoder.now n) (sym (length-map several (λ t. t.now))) surely)))
     c.in_err-reserve.ensures.refused
     )

@@ -17,8 +17,8 @@ pub loop-item-init : goal.loop-item-init
 loop-item-init g c = record {
   count = refl;
   joined =
-      joins_none g.S.Shaped.data.lists g.S.Shaped.data.shape (list_columns (written_lengths c.args.sizes) (g.E.Buffer.columns c.args.elements.now))
-      (ap (two (one (lengths None) [])) (g.met.E.Encoder.of_shape c.args.elements.now) ∙ sym (g.met.S.Sequence.items_columns []));
+      joins_none g.S.Shaped.data.lists g.S.Shaped.data.shape (list_columns (written_lengths c.args.sizes) (g.E.HoldsColumns.columns c.args.elements.now))
+      (ap (two (one (lengths None) [])) (g.met.E.EncodeMany.of_shape c.args.elements.now) ∙ sym (g.met.S.Sequence.items_columns []));
   sizes = omega arith;
   room = omega (arith, c.requires.elements);
   form = refl;
@@ -32,10 +32,10 @@ loop-item-preserved g c =
     let items = g.S.Sequence.items c.part-sequence.result.now in
     let old_lengths = written_lengths c.loop-item.sizes in
     let new_lengths = written_lengths c.encode_less_than_255.new.self in
-    let before = list_columns (written_lengths c.args.sizes) (g.E.Buffer.columns c.args.elements.now) in
-    let old = g.E.Buffer.columns c.loop-item.elements in
-    let new = g.E.Buffer.columns c.encode_elements.new.elements in
-    let form : _ = ap (two (one (lengths None) [])) (g.met.E.Encoder.of_shape c.args.elements.now) ∙ sym (g.met.S.Sequence.items_columns []) in
+    let before = list_columns (written_lengths c.args.sizes) (g.E.HoldsColumns.columns c.args.elements.now) in
+    let old = g.E.HoldsColumns.columns c.loop-item.elements in
+    let new = g.E.HoldsColumns.columns c.encode_elements.new.elements in
+    let form : _ = ap (two (one (lengths None) [])) (g.met.E.EncodeMany.of_shape c.args.elements.now) ∙ sym (g.met.S.Sequence.items_columns []) in
     let one_more : JoinsListing g.S.Shaped.data.lists g.S.Shaped.data.shape c.part-sequence.result.now (list_columns old_lengths old) (list_columns new_lengths new) =
     joins_as lists shape g.S.Shaped.data.lists g.S.Shaped.data.shape c.part-sequence.result.now items (g.met.S.Sequence.items_list c.part-sequence.result.now) g.met.S.Sequence.items_columns
     (list_columns old_lengths old) (list_columns new_lengths new)
@@ -60,9 +60,9 @@ returns-in_err-encode_elements-clause-refused g c =
     let i = c.loop-item.item-index in
     let t = c.part-sequence.result.now in
     let rest = map of (drop (i + 1) c.args.items.now) in
-    let before = list_columns (written_lengths c.args.sizes) (g.E.Buffer.columns c.args.elements.now) in
-    let now = list_columns (written_lengths c.loop-item.sizes) (g.E.Buffer.columns c.loop-item.elements) in
-    let form : _ = ap (two (one (lengths None) [])) (g.met.E.Encoder.of_shape c.args.elements.now) ∙ sym (g.met.S.Sequence.items_columns []) in
+    let before = list_columns (written_lengths c.args.sizes) (g.E.HoldsColumns.columns c.args.elements.now) in
+    let now = list_columns (written_lengths c.loop-item.sizes) (g.E.HoldsColumns.columns c.loop-item.elements) in
+    let form : _ = ap (two (one (lengths None) [])) (g.met.E.EncodeMany.of_shape c.args.elements.now) ∙ sym (g.met.S.Sequence.items_columns []) in
     let step = next_behind of c.args.items.now i c.item-item.result c.loop-item-test.true c.item-item.is in
     let others =
     each_listed shape g.S.Shaped.data.is_value lists g.S.Shaped.data.same g.S.Shaped.data.in_order g.S.Shaped.data.lawful rest
@@ -74,6 +74,6 @@ returns-in_err-encode_elements-clause-refused g c =
     (front_of lists shape of c.args.items.now i before now (of c.item-item.result ∷ rest) step c.loop-item.invariant.joined)
     (subst (λ item. OverflowsWithListing lists shape item now) c.part-sequence.ensures
     (overflows_as g.S.Element.Shaped.data.lists g.S.Element.Shaped.data.shape lists shape t (g.S.Sequence.items t) (g.met.S.Sequence.items_list t) g.met.S.Sequence.items_columns now
-    (overflows_sequence g.S.Element.Shaped.data.lists g.S.Element.Shaped.data.shape (g.S.Sequence.items t) (written_lengths c.loop-item.sizes) (g.E.Buffer.columns c.loop-item.elements) each)))
+    (overflows_sequence g.S.Element.Shaped.data.lists g.S.Element.Shaped.data.shape (g.S.Sequence.items t) (written_lengths c.loop-item.sizes) (g.E.HoldsColumns.columns c.loop-item.elements) each)))
     others.0 others.1) c.in_err-encode_elements.ensures.refused
     )

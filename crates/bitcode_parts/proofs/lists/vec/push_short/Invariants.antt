@@ -9,9 +9,9 @@ abbrev pub invariant-loop-item : goal.invariant-loop-item
 invariant-loop-item g l = record {
   count : l.count ≡ l.item-index;
   joined : JoinsEach g.S.Shaped.data.lists g.S.Shaped.data.shape (map (g.W.Part.of l.which) (take l.item-index l.items))
-      (list_columns (written_lengths l.initial.sizes) (g.E.Buffer.columns l.initial.elements))
-      (list_columns (written_lengths l.sizes) (g.E.Buffer.columns l.elements));
+      (list_columns (written_lengths l.initial.sizes) (g.E.HoldsColumns.columns l.initial.elements))
+      (list_columns (written_lengths l.sizes) (g.E.HoldsColumns.columns l.elements));
   sizes : length_room l.initial.sizes ≡ length_room l.sizes + l.item-index;
-  room : 15 * length l.items ≤ g.E.Buffer.room l.elements + 15 * l.item-index;
-  form : emptied (g.E.Buffer.columns l.elements) ≡ emptied (g.E.Buffer.columns l.initial.elements);
+  room : 15 * length l.items ≤ g.E.HoldsColumns.room l.elements + 15 * l.item-index;
+  form : emptied (g.E.HoldsColumns.columns l.elements) ≡ emptied (g.E.HoldsColumns.columns l.initial.elements);
 }

@@ -49,7 +49,7 @@ loop-value-preserved g c =
     c.in-Some.ensures.some c.told.ensures c.in_ok-encode-in-Some.ensures.joined in
     record {
       joined = subst (λ vs. Joined of.shape of.is_value of.lists g.T.InCase.leaf g.T.InCase.holder g.met.T.InCase.laws of.lawful.of_shape vs
-          (g.E.Buffer.columns c.reserve.new.self) (g.E.Buffer.columns c.encode.new.self))
+          (g.E.HoldsColumns.columns c.reserve.new.self) (g.E.HoldsColumns.columns c.encode.new.self))
           (sym (parts_more (λ v. v.now) c.args.values.now c.loop-value.value-index c.value-item.result c.loop-value-test.true c.value-item.is)) more;
       room = omega (arith, c.loop-value.invariant.room, c.in_ok-encode-in-Some.ensures.room);
     }
@@ -62,7 +62,7 @@ returns-clause-written g c =
     let at_end : c.loop-value.value-index ≡ length c.args.values.now = omega (arith, c.loop-value-test.false, c.loop-value.auto.value-index-end) in
     let all = ap (λ n. map (λ v. v.now) (take n c.args.values.now)) at_end ∙ ap (map (λ v. v.now)) (take-length c.args.values.now) in
     let joined = subst (λ vs. Joined of.shape of.is_value of.lists g.T.InCase.leaf g.T.InCase.holder g.met.T.InCase.laws of.lawful.of_shape vs
-    (g.E.Buffer.columns c.reserve.new.self) (g.E.Buffer.columns c.loop-value.column)) all c.loop-value.invariant.joined in
+    (g.E.HoldsColumns.columns c.reserve.new.self) (g.E.HoldsColumns.columns c.loop-value.column)) all c.loop-value.invariant.joined in
     on_ok_weaker c.collect_into.result
     (joined_all of.shape of.is_value of.lists g.T.InCase.leaf g.T.InCase.holder g.met.T.InCase.laws of.lawful.of_shape (map (λ v. v.now) c.args.values.now) _ _ empty
     (g.met.E.Encoder.of_shape c.reserve.new.self) joined c.args.out.now.items c.collect_into.new.out.items) c.collect_into.ensures.written

@@ -12,7 +12,7 @@ pub returns-in_err-encode_part_of_each-clause-refused : goal.returns-in_err-enco
 returns-in_err-encode_part_of_each-clause-refused g c =
     let refused = err_from_is_err_and c.from_residual.result c.from_residual.ensures.1 in
     let items = c.args.items.now in
-    let a = g.A.Buffer.columns c.args.self.now.first in
+    let a = g.A.HoldsColumns.columns c.args.self.now.first in
     let listed =
     each_listed g.Q.Shaped.data.shape g.Q.Shaped.data.is_value g.Q.Shaped.data.lists g.Q.Shaped.data.same g.Q.Shaped.data.in_order g.Q.Shaped.data.lawful
     (map (λ s. (g.W.Part.of c.args.which.now s).1) items)
@@ -27,10 +27,10 @@ returns-in_err-encode_part_of_each-clause-refused g c =
 pub returns-clause-joined : goal.returns-clause-joined
 returns-clause-joined g c =
     let items = c.args.items.now in
-    let a = g.A.Buffer.columns c.args.self.now.first in
-    let b = g.B.Buffer.columns c.args.self.now.second in
-    let new_a = g.A.Buffer.columns c.encode_part_of_each.new.self in
-    let new_b = g.B.Buffer.columns c.encode_part_of_each-2.new.self in
+    let a = g.A.HoldsColumns.columns c.args.self.now.first in
+    let b = g.B.HoldsColumns.columns c.args.self.now.second in
+    let new_a = g.A.HoldsColumns.columns c.encode_part_of_each.new.self in
+    let new_b = g.B.HoldsColumns.columns c.encode_part_of_each-2.new.self in
     on_ok_weaker c.encode_part_of_each-2.result (λ later.
     joins_pairs (g.W.Part.of c.args.which.now) (λ t. t) items
     (subst (λ w. JoinsEach g.P.Shaped.data.lists g.P.Shaped.data.shape (map (λ s. (g.W.Part.of w s).0) items) a new_a) c.of.ensures c.in_ok-encode_part_of_each.ensures.joined)
@@ -40,9 +40,9 @@ returns-clause-joined g c =
 pub returns-clause-refused : goal.returns-clause-refused
 returns-clause-refused g c =
     let items = c.args.items.now in
-    let a = g.A.Buffer.columns c.args.self.now.first in
-    let b = g.B.Buffer.columns c.args.self.now.second in
-    let new_a = g.A.Buffer.columns c.encode_part_of_each.new.self in
+    let a = g.A.HoldsColumns.columns c.args.self.now.first in
+    let b = g.B.HoldsColumns.columns c.args.self.now.second in
+    let new_a = g.A.HoldsColumns.columns c.encode_part_of_each.new.self in
     let joined =
     subst (λ w. JoinsEach g.P.Shaped.data.lists g.P.Shaped.data.shape (map (λ s. (g.W.Part.of w s).0) items) a new_a) c.of.ensures c.in_ok-encode_part_of_each.ensures.joined in
     refused_weaker (λ (e : Error). e.reason) c.encode_part_of_each-2.result (λ some.

@@ -13,7 +13,7 @@ returns-in_err-encode_fields-clause-refused g c =
     rw (refused.1, refused.2) (
     refusal_weaker _ (
     overflows_with_first g.F.Whole.Shaped.data.lists g.G.Whole.Shaped.data.lists g.F.Whole.Shaped.data.shape g.G.Whole.Shaped.data.shape
-    (g.F.Fields.whole fields.0, g.G.Fields.whole fields.1) (g.A.Buffer.columns c.args.self.now.first) (g.B.Buffer.columns c.args.self.now.second)
+    (g.F.Fields.whole fields.0, g.G.Fields.whole fields.1) (g.A.HoldsColumns.columns c.args.self.now.first) (g.B.HoldsColumns.columns c.args.self.now.second)
     listed.0 listed.1
     ) c.in_err-encode_fields.ensures.refused
     )
@@ -23,8 +23,8 @@ returns-clause-joined g c =
     let fields = c.args.fields.now in
     on_ok_weaker c.encode_fields-2.result (
     joins_pair g.F.Whole.Shaped.data.lists g.G.Whole.Shaped.data.lists g.F.Whole.Shaped.data.shape g.G.Whole.Shaped.data.shape
-    (g.F.Fields.whole fields.0, g.G.Fields.whole fields.1) (g.A.Buffer.columns c.args.self.now.first) (g.B.Buffer.columns c.args.self.now.second)
-    (g.A.Buffer.columns c.encode_fields.new.self) (g.B.Buffer.columns c.encode_fields-2.new.self) c.in_ok-encode_fields.ensures.joined
+    (g.F.Fields.whole fields.0, g.G.Fields.whole fields.1) (g.A.HoldsColumns.columns c.args.self.now.first) (g.B.HoldsColumns.columns c.args.self.now.second)
+    (g.A.HoldsColumns.columns c.encode_fields.new.self) (g.B.HoldsColumns.columns c.encode_fields-2.new.self) c.in_ok-encode_fields.ensures.joined
     ) c.encode_fields-2.ensures.joined
 
 pub returns-clause-refused : goal.returns-clause-refused
@@ -33,6 +33,6 @@ returns-clause-refused g c =
     let joined = c.in_ok-encode_fields.ensures.joined in
     refused_weaker (λ (e : Error). e.reason) c.encode_fields-2.result (
     overflows_with_second g.F.Whole.Shaped.data.lists g.G.Whole.Shaped.data.lists g.F.Whole.Shaped.data.shape g.G.Whole.Shaped.data.shape
-    (g.F.Fields.whole fields.0, g.G.Fields.whole fields.1) (g.A.Buffer.columns c.args.self.now.first) (g.B.Buffer.columns c.args.self.now.second)
+    (g.F.Fields.whole fields.0, g.G.Fields.whole fields.1) (g.A.HoldsColumns.columns c.args.self.now.first) (g.B.HoldsColumns.columns c.args.self.now.second)
     joined.datum joined.listing
     ) c.encode_fields-2.ensures.refused

@@ -7,11 +7,11 @@ use Rattle.bitcode_tuples.proofs.fields.TupleEncoderFieldsEncoderTuple2.write_fi
 
 pub write_fields-requires : goal.write_fields-requires
 write_fields-requires g c =
-    (none_in_both (g.A.Buffer.columns c.args.self.now.first) (g.B.Buffer.columns c.args.self.now.second) c.requires).0
+    (none_in_both (g.A.HoldsColumns.columns c.args.self.now.first) (g.B.HoldsColumns.columns c.args.self.now.second) c.requires).0
 
 pub write_fields-requires-2 : goal.write_fields-requires-2
 write_fields-requires-2 g c =
-    (none_in_both (g.A.Buffer.columns c.args.self.now.first) (g.B.Buffer.columns c.args.self.now.second) c.requires).1
+    (none_in_both (g.A.HoldsColumns.columns c.args.self.now.first) (g.B.HoldsColumns.columns c.args.self.now.second) c.requires).1
 
 pub returns-in_err-write_fields-clause-refused : goal.returns-in_err-write_fields-clause-refused
 returns-in_err-write_fields-clause-refused g c =
@@ -21,7 +21,7 @@ returns-in_err-write_fields-clause-refused g c =
     rw (refused.1, refused.2) (
     refusal_weaker _ (
     overflows_with_first g.F.Whole.Shaped.data.lists g.G.Whole.Shaped.data.lists g.F.Whole.Shaped.data.shape g.G.Whole.Shaped.data.shape
-    (g.F.Fields.whole fields.0, g.G.Fields.whole fields.1) (g.A.Buffer.columns c.args.self.now.first) (g.B.Buffer.columns c.args.self.now.second)
+    (g.F.Fields.whole fields.0, g.G.Fields.whole fields.1) (g.A.HoldsColumns.columns c.args.self.now.first) (g.B.HoldsColumns.columns c.args.self.now.second)
     listed.0 listed.1
     ) c.in_err-write_fields.ensures.refused
     )
@@ -31,7 +31,7 @@ returns-clause-written g c =
     let fields = c.args.fields.now in
     on_ok_weaker c.write_fields-2.result (
     writes_pair g.F.Whole.Shaped.data.lists g.G.Whole.Shaped.data.lists g.F.Whole.Shaped.data.shape g.G.Whole.Shaped.data.shape
-    (g.F.Fields.whole fields.0, g.G.Fields.whole fields.1) (g.A.Buffer.columns c.args.self.now.first) (g.B.Buffer.columns c.args.self.now.second)
+    (g.F.Fields.whole fields.0, g.G.Fields.whole fields.1) (g.A.HoldsColumns.columns c.args.self.now.first) (g.B.HoldsColumns.columns c.args.self.now.second)
     c.args.out.now.items c.write_fields.new.out.items c.write_fields-2.new.out.items c.in_ok-write_fields.ensures.written
     ) c.write_fields-2.ensures.written
 
@@ -41,6 +41,6 @@ returns-clause-refused g c =
     let joined = c.in_ok-write_fields.ensures.written.joined in
     refused_weaker (λ (e : Error). e.reason) c.write_fields-2.result (
     overflows_with_second g.F.Whole.Shaped.data.lists g.G.Whole.Shaped.data.lists g.F.Whole.Shaped.data.shape g.G.Whole.Shaped.data.shape
-    (g.F.Fields.whole fields.0, g.G.Fields.whole fields.1) (g.A.Buffer.columns c.args.self.now.first) (g.B.Buffer.columns c.args.self.now.second)
+    (g.F.Fields.whole fields.0, g.G.Fields.whole fields.1) (g.A.HoldsColumns.columns c.args.self.now.first) (g.B.HoldsColumns.columns c.args.self.now.second)
     joined.datum joined.listing
     ) c.write_fields-2.ensures.refused

@@ -10,5 +10,5 @@ pub returns-clause-refused : goal.returns-clause-refused
 returns-clause-refused g c =
     refused_weaker (λ (e : Error). e.reason) c.encode.result (λ some.
     overflows_as g.T.HasField.field c.args.whole.now
-    (subst (λ f. OverflowsWithListing g.T.Field.Shaped.data.lists g.T.Field.Shaped.data.shape f (g.E.Buffer.columns c.args.self.now)) c.field.ensures some)
+    (subst (λ f. OverflowsWithListing g.T.Field.Shaped.data.lists g.T.Field.Shaped.data.shape f (g.E.HoldsColumns.columns c.args.self.now)) c.field.ensures some)
     ) c.encode.ensures.refused

@@ -18,8 +18,8 @@ returns-in_err-encode_part-clause-refused g c =
     let refused = err_from_is_err_and c.from_residual.result c.from_residual.ensures.1 in
     rw (refused.1, refused.2) (
     refusal_weaker _ (λ some. overflows_as (λ t. (t, t)) whole (
-    overflows_with_first g.A.PartEncoder.lists g.B.PartEncoder.lists g.A.PartEncoder.shape g.B.PartEncoder.shape (whole, whole)
-    (g.A.PartEncoder.columns c.args.self.now.first) (g.B.PartEncoder.columns c.args.self.now.second) listing.second listing.lists_second some
+    overflows_with_first g.K.PartOf.lists g.L.PartOf.lists g.K.PartOf.shape g.L.PartOf.shape (whole, whole)
+    (g.A.HoldsColumns.columns c.args.self.now.first) (g.B.HoldsColumns.columns c.args.self.now.second) listing.second listing.lists_second some
     )) c.in_err-encode_part.ensures.refused
     )
 
@@ -27,9 +27,9 @@ pub returns-clause-joined : goal.returns-clause-joined
 returns-clause-joined g c =
     let whole = c.args.whole.now in
     on_ok_weaker c.encode_part-2.result (λ later. joins_as (λ t. (t, t)) whole (
-    joins_pair g.A.PartEncoder.lists g.B.PartEncoder.lists g.A.PartEncoder.shape g.B.PartEncoder.shape (whole, whole)
-    (g.A.PartEncoder.columns c.args.self.now.first) (g.B.PartEncoder.columns c.args.self.now.second)
-    (g.A.PartEncoder.columns c.encode_part.new.self) (g.B.PartEncoder.columns c.encode_part-2.new.self) c.in_ok-encode_part.ensures.joined later
+    joins_pair g.K.PartOf.lists g.L.PartOf.lists g.K.PartOf.shape g.L.PartOf.shape (whole, whole)
+    (g.A.HoldsColumns.columns c.args.self.now.first) (g.B.HoldsColumns.columns c.args.self.now.second)
+    (g.A.HoldsColumns.columns c.encode_part.new.self) (g.B.HoldsColumns.columns c.encode_part-2.new.self) c.in_ok-encode_part.ensures.joined later
     )) c.encode_part-2.ensures.joined
 
 pub returns-clause-refused : goal.returns-clause-refused
@@ -37,6 +37,6 @@ returns-clause-refused g c =
     let whole = c.args.whole.now in
     let joined = c.in_ok-encode_part.ensures.joined in
     refused_weaker (λ (e : Error). e.reason) c.encode_part-2.result (λ some. overflows_as (λ t. (t, t)) whole (
-    overflows_with_second g.A.PartEncoder.lists g.B.PartEncoder.lists g.A.PartEncoder.shape g.B.PartEncoder.shape (whole, whole)
-    (g.A.PartEncoder.columns c.args.self.now.first) (g.B.PartEncoder.columns c.args.self.now.second) joined.datum joined.listing some
+    overflows_with_second g.K.PartOf.lists g.L.PartOf.lists g.K.PartOf.shape g.L.PartOf.shape (whole, whole)
+    (g.A.HoldsColumns.columns c.args.self.now.first) (g.B.HoldsColumns.columns c.args.self.now.second) joined.datum joined.listing some
     )) c.encode_part-2.ensures.refused

@@ -7,14 +7,14 @@ use Rattle.bitcode_tuples.proofs.part_encoder.TupleEncoderPartEncoderTuple2.writ
 
 pub write_part-requires-clause-none : goal.write_part-requires-clause-none
 write_part-requires-clause-none g c =
-    (none_in_both (g.A.PartEncoder.columns c.args.self.now.first) (g.B.PartEncoder.columns c.args.self.now.second) c.requires.none).0
+    (none_in_both (g.A.HoldsColumns.columns c.args.self.now.first) (g.B.HoldsColumns.columns c.args.self.now.second) c.requires.none).0
 
 pub write_part-requires-clause-listed : goal.write_part-requires-clause-listed
 write_part-requires-clause-listed g c = let listing = c.requires.listed.1 in (listing.first, listing.lists_first)
 
 pub write_part-requires-2-clause-none : goal.write_part-requires-2-clause-none
 write_part-requires-2-clause-none g c =
-    (none_in_both (g.A.PartEncoder.columns c.args.self.now.first) (g.B.PartEncoder.columns c.args.self.now.second) c.requires.none).1
+    (none_in_both (g.A.HoldsColumns.columns c.args.self.now.first) (g.B.HoldsColumns.columns c.args.self.now.second) c.requires.none).1
 
 pub write_part-requires-2-clause-listed : goal.write_part-requires-2-clause-listed
 write_part-requires-2-clause-listed g c = let listing = c.requires.listed.1 in (listing.second, listing.lists_second)
@@ -26,8 +26,8 @@ returns-in_err-write_part-clause-refused g c =
     let refused = err_from_is_err_and c.from_residual.result c.from_residual.ensures.1 in
     rw (refused.1, refused.2) (
     refusal_weaker _ (λ some. overflows_as (λ t. (t, t)) whole (
-    overflows_with_first g.A.PartEncoder.lists g.B.PartEncoder.lists g.A.PartEncoder.shape g.B.PartEncoder.shape (whole, whole)
-    (g.A.PartEncoder.columns c.args.self.now.first) (g.B.PartEncoder.columns c.args.self.now.second) listing.second listing.lists_second some
+    overflows_with_first g.K.PartOf.lists g.L.PartOf.lists g.K.PartOf.shape g.L.PartOf.shape (whole, whole)
+    (g.A.HoldsColumns.columns c.args.self.now.first) (g.B.HoldsColumns.columns c.args.self.now.second) listing.second listing.lists_second some
     )) c.in_err-write_part.ensures.refused
     )
 
@@ -35,8 +35,8 @@ pub returns-clause-written : goal.returns-clause-written
 returns-clause-written g c =
     let whole = c.args.whole.now in
     on_ok_weaker c.write_part-2.result (λ later. writes_as (λ t. (t, t)) whole (
-    writes_pair g.A.PartEncoder.lists g.B.PartEncoder.lists g.A.PartEncoder.shape g.B.PartEncoder.shape (whole, whole)
-    (g.A.PartEncoder.columns c.args.self.now.first) (g.B.PartEncoder.columns c.args.self.now.second)
+    writes_pair g.K.PartOf.lists g.L.PartOf.lists g.K.PartOf.shape g.L.PartOf.shape (whole, whole)
+    (g.A.HoldsColumns.columns c.args.self.now.first) (g.B.HoldsColumns.columns c.args.self.now.second)
     c.args.out.now.items c.write_part.new.out.items c.write_part-2.new.out.items c.in_ok-write_part.ensures.written later
     )) c.write_part-2.ensures.written
 
@@ -45,6 +45,6 @@ returns-clause-refused g c =
     let whole = c.args.whole.now in
     let joined = c.in_ok-write_part.ensures.written.joined in
     refused_weaker (λ (e : Error). e.reason) c.write_part-2.result (λ some. overflows_as (λ t. (t, t)) whole (
-    overflows_with_second g.A.PartEncoder.lists g.B.PartEncoder.lists g.A.PartEncoder.shape g.B.PartEncoder.shape (whole, whole)
-    (g.A.PartEncoder.columns c.args.self.now.first) (g.B.PartEncoder.columns c.args.self.now.second) joined.datum joined.listing some
+    overflows_with_second g.K.PartOf.lists g.L.PartOf.lists g.K.PartOf.shape g.L.PartOf.shape (whole, whole)
+    (g.A.HoldsColumns.columns c.args.self.now.first) (g.B.HoldsColumns.columns c.args.self.now.second) joined.datum joined.listing some
     )) c.write_part-2.ensures.refused

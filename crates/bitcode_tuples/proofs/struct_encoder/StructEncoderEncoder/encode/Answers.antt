@@ -1,30 +1,18 @@
 -- What is written of the fields is written of the struct.
-use Rattle.std.proofs.Common.{subst, ◌<◌}
 use Rattle.std.proofs.lemmas.Result.{on_ok_weaker}
 use Rattle.bitcode_memory.specs.declared.error.Error.{Error}
 use Rattle.bitcode_coder.proofs.RefusalLemmas.{refused_weaker}
 use Rattle.bitcode_tuples.proofs.FieldLemmas.{joins_one_as, overflows_one_as}
 use Rattle.bitcode_tuples.proofs.struct_encoder.StructEncoderEncoder.encode.Goals as goal
 
-pub encode_part-requires-clause-room : goal.encode_part-requires-clause-room
-encode_part-requires-clause-room g c = subst (λ room. 0 < room c.args.self.now.fields) g.met.T.InFields.same_columns.room_is c.requires
-
 pub returns-clause-joined : goal.returns-clause-joined
 returns-clause-joined g c =
-    rw g.met.T.InFields.same_columns.columns_are (
     on_ok_weaker c.encode_part.result
-    (joins_one_as g.E.PartEncoder.lists g.T.Shaped.data.lists (λ t. (g.met.T.InFields.same_listings t).from) g.met.T.InFields.same_columns.of_shape c.args.t.now)
-    c.encode_part.ensures.joined)
-
-pub returns-clause-room : goal.returns-clause-room
-returns-clause-room g c = rw g.met.T.InFields.same_columns.room_is c.encode_part.ensures.room
-
-pub returns-clause-form : goal.returns-clause-form
-returns-clause-form g c = rw g.met.T.InFields.same_columns.columns_are c.encode_part.ensures.form
+    (joins_one_as g.T.Numbers.PartOf.lists g.T.Shaped.data.lists (λ t. (g.met.T.InFields.same_listings t).from) g.met.T.InFields.same_columns c.args.t.now)
+    c.encode_part.ensures.joined
 
 pub returns-clause-refused : goal.returns-clause-refused
 returns-clause-refused g c =
-    rw g.met.T.InFields.same_columns.columns_are (
     refused_weaker (λ (e : Error). e.reason) c.encode_part.result
-    (overflows_one_as g.E.PartEncoder.lists g.T.Shaped.data.lists (λ t. (g.met.T.InFields.same_listings t).from) g.met.T.InFields.same_columns.of_shape c.args.t.now)
-    c.encode_part.ensures.refused)
+    (overflows_one_as g.T.Numbers.PartOf.lists g.T.Shaped.data.lists (λ t. (g.met.T.InFields.same_listings t).from) g.met.T.InFields.same_columns c.args.t.now)
+    c.encode_part.ensures.refused

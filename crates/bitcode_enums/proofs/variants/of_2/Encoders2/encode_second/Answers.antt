@@ -10,12 +10,12 @@ use Rattle.bitcode_enums.proofs.variants.of_2.Encoders2.encode_second.Goals as g
 pub returns-clause-joined : goal.returns-clause-joined
 returns-clause-joined g c =
     on_ok_weaker c.encode_payload_fields.result (joins_of g.T.Enum.each.variants g.met.T.Variants2.are.1 c.requires g.First.VariantNumber.value 1 (omega arith)
-    (g.E1.Buffer.columns c.args.self.now.first ∷ g.E2.Buffer.columns c.args.self.now.second ∷ [])
-    (g.E1.Buffer.columns c.args.self.now.first ∷ g.E2.Buffer.columns c.encode_payload_fields.new.columns ∷ []))
+    (g.E1.HoldsColumns.columns c.args.self.now.first ∷ g.E2.HoldsColumns.columns c.args.self.now.second ∷ [])
+    (g.E1.HoldsColumns.columns c.args.self.now.first ∷ g.E2.HoldsColumns.columns c.encode_payload_fields.new.columns ∷ []))
     c.encode_payload_fields.ensures.joined
 
 pub returns-clause-refused : goal.returns-clause-refused
 returns-clause-refused g c =
     refused_weaker (λ (e : Error). e.reason) c.encode_payload_fields.result (overflows_of g.T.Enum.each.variants g.met.T.Variants2.are.1 c.requires g.First.VariantNumber.value 1 (omega arith)
-    (g.E1.Buffer.columns c.args.self.now.first ∷ g.E2.Buffer.columns c.args.self.now.second ∷ []))
+    (g.E1.HoldsColumns.columns c.args.self.now.first ∷ g.E2.HoldsColumns.columns c.args.self.now.second ∷ []))
     c.encode_payload_fields.ensures.refused

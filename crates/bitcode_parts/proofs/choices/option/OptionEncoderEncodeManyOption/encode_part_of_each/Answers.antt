@@ -21,8 +21,8 @@ pub returns-clause-joined : goal.returns-clause-joined
 returns-clause-joined g c =
     let os = map (g.W.Part.of c.args.which.now) c.args.items.now in
     on_ok_weaker c.encode_values.result
-    (joins_options g.T.Shaped.data.lists g.T.Shaped.data.shape os (written_variants c.args.self.now.variants) (g.E.Buffer.columns c.args.self.now.some)
-    (written_variants c.encode_vectored.new.self) (g.E.Buffer.columns c.encode_values.new.encoder)
+    (joins_options g.T.Shaped.data.lists g.T.Shaped.data.shape os (written_variants c.args.self.now.variants) (g.E.HoldsColumns.columns c.args.self.now.some)
+    (written_variants c.encode_vectored.new.self) (g.E.HoldsColumns.columns c.encode_values.new.encoder)
     (c.encode_vectored.ensures.written ∙ ap (λ more. written_variants c.args.self.now.variants ++ more) c.gather_variants.ensures.gathered))
     c.encode_values.ensures.joined
 
@@ -30,5 +30,5 @@ pub returns-clause-refused : goal.returns-clause-refused
 returns-clause-refused g c =
     let os = map (g.W.Part.of c.args.which.now) c.args.items.now in
     refused_weaker (λ (e : Error). e.reason) c.encode_values.result
-    (overflows_options g.T.Shaped.data.lists g.T.Shaped.data.shape os (written_variants c.args.self.now.variants) (g.E.Buffer.columns c.args.self.now.some))
+    (overflows_options g.T.Shaped.data.lists g.T.Shaped.data.shape os (written_variants c.args.self.now.variants) (g.E.HoldsColumns.columns c.args.self.now.some))
     c.encode_values.ensures.refused

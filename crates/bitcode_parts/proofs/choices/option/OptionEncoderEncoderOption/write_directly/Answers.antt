@@ -19,7 +19,7 @@ returns-in_err-write_one-in-Some-clause-refused g c =
 pub returns-in_ok-collect_into-in-None-clause-written : goal.returns-in_ok-collect_into-in-None-clause-written
 returns-in_ok-collect_into-in-None-clause-written g c done =
     let entries = written_variants c.args.self.now.variants in
-    let some = g.E.Buffer.columns c.args.self.now.some in
+    let some = g.E.HoldsColumns.columns c.args.self.now.some in
     record {
       new = two (one (variants 2) (map natural (entries ++ 0 ∷ []))) (two no_columns (two some no_columns));
       joined =
@@ -33,7 +33,7 @@ returns-in_ok-collect_into-in-None-clause-written g c done =
 pub returns-in_ok-write_one-in-Some-clause-written : goal.returns-in_ok-write_one-in-Some-clause-written
 returns-in_ok-write_one-in-Some-clause-written g c done =
     let entries = written_variants c.args.self.now.variants in
-    let some = g.E.Buffer.columns c.args.self.now.some in
+    let some = g.E.HoldsColumns.columns c.args.self.now.some in
     let value = c.in_ok-write_one-in-Some.ensures.written in
     record {
       new = two (one (variants 2) (map natural (entries ++ 1 ∷ []))) (two no_columns (two value.new no_columns));

@@ -6,6 +6,6 @@ use Rattle.bitcode_parts.proofs.choices.option.gathered.encode_values.Goals as g
 
 pub returns-in-None-clause-joined : goal.returns-in-None-clause-joined
 returns-in-None-clause-joined g c =
-    subst (λ values. JoinsEach g.T.Shaped.data.lists g.T.Shaped.data.shape values (g.E.Buffer.columns c.args.encoder.now) (g.E.Buffer.columns c.args.encoder.now))
+    subst (λ values. JoinsEach g.T.Shaped.data.lists g.T.Shaped.data.shape values (g.E.HoldsColumns.columns c.args.encoder.now) (g.E.HoldsColumns.columns c.args.encoder.now))
     (sym c.in-None.ensures.none)
-    (joins_none g.T.Shaped.data.lists g.T.Shaped.data.shape (g.E.Buffer.columns c.args.encoder.now) (g.met.E.Encoder.of_shape c.args.encoder.now))
+    (joins_none g.T.Shaped.data.lists g.T.Shaped.data.shape (g.E.HoldsColumns.columns c.args.encoder.now) (g.met.E.EncodeMany.of_shape c.args.encoder.now))

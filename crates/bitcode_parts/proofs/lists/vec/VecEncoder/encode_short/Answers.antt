@@ -10,6 +10,6 @@ pub returns-then-is_err-clause-joined : goal.returns-then-is_err-clause-joined
 returns-then-is_err-clause-joined g c =
     let self = c.args.self.now in
     rw c.reserve.ensures.columns (
-    joins_none g.S.Shaped.data.lists g.S.Shaped.data.shape (list_columns (written_lengths self.lengths) (g.E.Buffer.columns self.elements))
-    (ap (two (one (lengths None) [])) (g.met.E.Encoder.of_shape self.elements) ∙ sym (g.met.S.Sequence.items_columns []))
+    joins_none g.S.Shaped.data.lists g.S.Shaped.data.shape (list_columns (written_lengths self.lengths) (g.E.HoldsColumns.columns self.elements))
+    (ap (two (one (lengths None) [])) (g.met.E.EncodeMany.of_shape self.elements) ∙ sym (g.met.S.Sequence.items_columns []))
     )

@@ -17,7 +17,7 @@ returns-in_err-reserve-clause-refused g c =
     let shape = g.S.Element.Shaped.data.shape in
     let items = g.S.Sequence.items c.args.t.now in
     let old_lengths = written_lengths c.args.self.now.lengths in
-    let old = g.E.Buffer.columns c.args.self.now.elements in
+    let old = g.E.HoldsColumns.columns c.args.self.now.elements in
     rw (refused.1, refused.2) (
     refusal_weaker _ (λ surely.
     overflows_as lists shape g.S.Shaped.data.lists g.S.Shaped.data.shape c.args.t.now items (g.met.S.Sequence.items_list c.args.t.now) g.met.S.Sequence.items_columns
@@ -25,7 +25,7 @@ returns-in_err-reserve-clause-refused g c =
     (overflows_sequence lists shape items old_lengths old
     (overflows_surely lists shape items g.S.Element.Shaped.data.is_value g.S.Element.Shaped.data.same g.S.Element.Shaped.data.in_order g.S.Element.Shaped.data.lawful
     (g.met.S.Sequence.items_are c.args.t.now c.told.ensures) old
-    (g.met.E.Encoder.surely c.args.self.now.elements (length items) (subst (λ n. g.E.Buffer.surely_overflows c.args.self.now.elements n) c.element_count-count.ensures surely)))))
+    (g.met.E.EncodeMany.surely c.args.self.now.elements (length items) (subst (λ n. g.E.HoldsColumns.surely_overflows c.args.self.now.elements n) c.element_count-count.ensures surely)))))
     c.in_err-reserve.ensures.refused
     )
 
@@ -35,11 +35,11 @@ returns-clause-joined g c =
     let shape = g.S.Element.Shaped.data.shape in
     let items = g.S.Sequence.items c.args.t.now in
     let old_lengths = written_lengths c.args.self.now.lengths in
-    let old = g.E.Buffer.columns c.args.self.now.elements in
+    let old = g.E.HoldsColumns.columns c.args.self.now.elements in
     on_ok_weaker c.encode_elements.result (λ each.
     joins_as lists shape g.S.Shaped.data.lists g.S.Shaped.data.shape c.args.t.now items (g.met.S.Sequence.items_list c.args.t.now) g.met.S.Sequence.items_columns
     (two (one (lengths None) (map natural old_lengths)) old) _
-    (joins_sequence lists shape items old_lengths (written_lengths c.encode.new.self) old (g.E.Buffer.columns c.encode_elements.new.elements)
+    (joins_sequence lists shape items old_lengths (written_lengths c.encode.new.self) old (g.E.HoldsColumns.columns c.encode_elements.new.elements)
     (rw c.element_count-count.ensures at c.in_ok-encode.ensures.written) each)
     ) (rw c.in_ok-reserve.ensures.columns at c.encode_elements.ensures.joined)
 
@@ -49,7 +49,7 @@ returns-clause-refused g c =
     let shape = g.S.Element.Shaped.data.shape in
     let items = g.S.Sequence.items c.args.t.now in
     let old_lengths = written_lengths c.args.self.now.lengths in
-    let old = g.E.Buffer.columns c.args.self.now.elements in
+    let old = g.E.HoldsColumns.columns c.args.self.now.elements in
     refused_weaker (λ (e : Error). e.reason) c.encode_elements.result (λ each.
     overflows_as lists shape g.S.Shaped.data.lists g.S.Shaped.data.shape c.args.t.now items (g.met.S.Sequence.items_list c.args.t.now) g.met.S.Sequence.items_columns
     (two (one (lengths None) (map natural old_lengths)) old) (overflows_sequence lists shape items old_lengths old each)

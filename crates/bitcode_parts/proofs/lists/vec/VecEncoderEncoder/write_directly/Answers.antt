@@ -17,7 +17,7 @@ returns-in_err-reserve-clause-refused g c =
     let shape = g.S.Element.Shaped.data.shape in
     let items = g.S.Sequence.items c.args.t.now in
     let old_lengths = written_lengths c.args.self.now.lengths in
-    let old = g.E.Buffer.columns c.args.self.now.elements in
+    let old = g.E.HoldsColumns.columns c.args.self.now.elements in
     rw (refused.1, refused.2) (
     refusal_weaker _ (λ surely.
     overflows_as lists shape g.S.Shaped.data.lists g.S.Shaped.data.shape c.args.t.now items (g.met.S.Sequence.items_list c.args.t.now) g.met.S.Sequence.items_columns
@@ -25,7 +25,7 @@ returns-in_err-reserve-clause-refused g c =
     (overflows_sequence lists shape items old_lengths old
     (overflows_surely lists shape items g.S.Element.Shaped.data.is_value g.S.Element.Shaped.data.same g.S.Element.Shaped.data.in_order g.S.Element.Shaped.data.lawful
     (g.met.S.Sequence.items_are c.args.t.now c.told.ensures) old
-    (g.met.E.Encoder.surely c.args.self.now.elements (length items) (subst (λ n. g.E.Buffer.surely_overflows c.args.self.now.elements n) c.element_count-count.ensures surely)))))
+    (g.met.E.EncodeMany.surely c.args.self.now.elements (length items) (subst (λ n. g.E.HoldsColumns.surely_overflows c.args.self.now.elements n) c.element_count-count.ensures surely)))))
     c.in_err-reserve.ensures.refused
     )
 
@@ -36,7 +36,7 @@ returns-in_err-encode_elements-clause-refused g c =
     let shape = g.S.Element.Shaped.data.shape in
     let items = g.S.Sequence.items c.args.t.now in
     let old_lengths = written_lengths c.args.self.now.lengths in
-    let old = g.E.Buffer.columns c.args.self.now.elements in
+    let old = g.E.HoldsColumns.columns c.args.self.now.elements in
     rw (refused.1, refused.2) (
     refusal_weaker _ (λ each.
     overflows_as lists shape g.S.Shaped.data.lists g.S.Shaped.data.shape c.args.t.now items (g.met.S.Sequence.items_list c.args.t.now) g.met.S.Sequence.items_columns
@@ -51,8 +51,8 @@ returns-clause-written g c done =
     let items = g.S.Sequence.items c.args.t.now in
     let count = c.element_count-count.result in
     let old_lengths = written_lengths c.args.self.now.lengths in
-    let old = g.E.Buffer.columns c.args.self.now.elements in
-    let new = g.E.Buffer.columns c.encode_elements.new.elements in
+    let old = g.E.HoldsColumns.columns c.args.self.now.elements in
+    let new = g.E.HoldsColumns.columns c.encode_elements.new.elements in
     record {
       new = two (one (lengths None) (map natural (old_lengths ++ count ∷ []))) new;
       joined =
@@ -74,7 +74,7 @@ returns-then-branch-clause-written g c done =
     let items = g.S.Sequence.items c.args.t.now in
     let count = c.element_count-count.result in
     let old_lengths = written_lengths c.args.self.now.lengths in
-    let old = g.E.Buffer.columns c.args.self.now.elements in
+    let old = g.E.HoldsColumns.columns c.args.self.now.elements in
     let all = c.in_ok-write_elements.ensures.written c.if-branch.true in
     record {
       new = two (one (lengths None) (map natural (old_lengths ++ count ∷ []))) all.new;

@@ -9,8 +9,8 @@ use Rattle.bitcode_parts.proofs.pointers.deref.DerefEncoderEncodeMany.encode_par
 
 pub returns-clause-joined : goal.returns-clause-joined
 returns-clause-joined g c =
-    let old = g.E.Buffer.columns c.args.self.now.inner in
-    let new = g.E.Buffer.columns c.encode_part_of_each.new.self in
+    let old = g.E.HoldsColumns.columns c.args.self.now.inner in
+    let new = g.E.HoldsColumns.columns c.encode_part_of_each.new.self in
     on_ok_weaker c.encode_part_of_each.result
     (λ joined.
     subst (λ w. JoinsEach g.P.Shaped.data.lists g.P.Shaped.data.shape (map (g.W.Part.of w) c.args.items.now) old new) c.by.ensures
@@ -20,7 +20,7 @@ returns-clause-joined g c =
 
 pub returns-clause-refused : goal.returns-clause-refused
 returns-clause-refused g c =
-    let old = g.E.Buffer.columns c.args.self.now.inner in
+    let old = g.E.HoldsColumns.columns c.args.self.now.inner in
     refused_weaker (λ (e : Error). e.reason) c.encode_part_of_each.result
     (λ overflows.
     subst (λ w. OverflowsWithEach g.P.Shaped.data.lists g.P.Shaped.data.shape (map (g.W.Part.of w) c.args.items.now) old) c.by.ensures

@@ -8,7 +8,7 @@ use Rattle.bitcode_shapes.specs.Ints.{ListsNumber}
 use Rattle.bitcode_coder.specs.Columns.{floats}
 use Rattle.bitcode_floats.specs.Floats.{float_datum}
 use Rattle.bitcode_coder.proofs.PushingLemmas.{joins_themselves}
-use Rattle.bitcode_floats.proofs.float32.F32EncoderEncoderF32.encode_slice.Goals as goal
+use Rattle.bitcode_floats.proofs.float32.F32EncoderEncodeManyF32.encode_slice.Goals as goal
 
 pub returns-clause-joined : goal.returns-clause-joined
 returns-clause-joined c =

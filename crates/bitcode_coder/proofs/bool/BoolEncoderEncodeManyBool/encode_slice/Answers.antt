@@ -6,7 +6,7 @@ use Rattle.bitcode_shapes.specs.Ints.{ListsNumber, bool_number}
 use Rattle.bitcode_coder.specs.Columns.{bools}
 use Rattle.bitcode_coder.specs.Spelling.{truth}
 use Rattle.bitcode_coder.proofs.PushingLemmas.{joins_themselves}
-use Rattle.bitcode_coder.proofs.bool.BoolEncoderEncoderBool.encode_slice.Goals as goal
+use Rattle.bitcode_coder.proofs.bool.BoolEncoderEncodeManyBool.encode_slice.Goals as goal
 
 pub returns-clause-joined : goal.returns-clause-joined
 returns-clause-joined c =

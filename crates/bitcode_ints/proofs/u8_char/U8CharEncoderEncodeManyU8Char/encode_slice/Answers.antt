@@ -7,7 +7,7 @@ use Rattle.bitcode_coder.specs.Columns.{raws}
 use Rattle.bitcode_coder.specs.Spelling.{natural}
 use Rattle.bitcode_ints.proofs.PushedIntLemmas.{joins_made}
 use Rattle.bitcode_ints.specs.declared.u8_char.U8Char.{U8Char}
-use Rattle.bitcode_ints.proofs.u8_char.U8CharEncoderEncoderU8Char.encode_slice.Goals as goal
+use Rattle.bitcode_ints.proofs.u8_char.U8CharEncoderEncodeManyU8Char.encode_slice.Goals as goal
 
 pub returns-clause-joined : goal.returns-clause-joined
 returns-clause-joined c =

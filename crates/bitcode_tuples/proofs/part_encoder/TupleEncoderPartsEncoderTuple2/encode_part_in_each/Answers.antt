@@ -3,7 +3,7 @@ use Rattle.std.proofs.lemmas.Result.{err_from_is_err_and, on_ok_weaker}
 use Rattle.bitcode_memory.specs.declared.error.Error.{Error}
 use Rattle.bitcode_coder.proofs.RefusalLemmas.{refusal_weaker, refused_weaker}
 use Rattle.bitcode_tuples.proofs.WritingLemmas.{firsts_listed, seconds_listed, joins_pairs, overflows_with_firsts, overflows_with_seconds}
-use Rattle.bitcode_tuples.proofs.part_encoder.TupleEncoderPartEncoderTuple2.encode_part_in_each.Goals as goal
+use Rattle.bitcode_tuples.proofs.part_encoder.TupleEncoderPartsEncoderTuple2.encode_part_in_each.Goals as goal
 
 pub encode_part_in_each-requires-clause-listed : goal.encode_part_in_each-requires-clause-listed
 encode_part_in_each-requires-clause-listed g c =

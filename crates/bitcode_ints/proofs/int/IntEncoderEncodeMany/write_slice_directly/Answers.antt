@@ -3,7 +3,7 @@ use Rattle.std.proofs.lemmas.Result.{IfOk-weaker}
 use Rattle.bitcode_memory.specs.Fast.{fast_items}
 use Rattle.bitcode_ints.specs.Int.{int_data}
 use Rattle.bitcode_ints.proofs.PushedIntLemmas.{writes_ints}
-use Rattle.bitcode_ints.proofs.int.IntEncoderEncoder.write_slice_directly.Goals as goal
+use Rattle.bitcode_ints.proofs.int.IntEncoderEncodeMany.write_slice_directly.Goals as goal
 
 pub returns-clause-written : goal.returns-clause-written
 returns-clause-written g c =

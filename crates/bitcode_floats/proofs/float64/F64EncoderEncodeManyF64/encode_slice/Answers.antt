@@ -9,7 +9,7 @@ use Rattle.bitcode_shapes.specs.Ints.{ListsNumber}
 use Rattle.bitcode_coder.specs.Columns.{floats}
 use Rattle.bitcode_coder.specs.Spelling.{natural}
 use Rattle.bitcode_floats.proofs.FloatLemmas.{joins_made}
-use Rattle.bitcode_floats.proofs.float64.F64EncoderEncoderF64.encode_slice.Goals as goal
+use Rattle.bitcode_floats.proofs.float64.F64EncoderEncodeManyF64.encode_slice.Goals as goal
 
 pub returns-clause-joined : goal.returns-clause-joined
 returns-clause-joined c =

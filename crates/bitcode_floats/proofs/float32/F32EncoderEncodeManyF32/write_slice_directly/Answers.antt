@@ -9,7 +9,7 @@ use Rattle.bitcode_shapes.specs.Ints.{ListsNumber}
 use Rattle.bitcode_coder.specs.Columns.{floats}
 use Rattle.bitcode_floats.specs.Floats.{float_datum, data_of_floats}
 use Rattle.bitcode_floats.proofs.FloatLemmas.{bits_of_data, writes_themselves}
-use Rattle.bitcode_floats.proofs.float32.F32EncoderEncoderF32.write_slice_directly.Goals as goal
+use Rattle.bitcode_floats.proofs.float32.F32EncoderEncodeManyF32.write_slice_directly.Goals as goal
 
 pub returns-clause-written : goal.returns-clause-written
 returns-clause-written c done =

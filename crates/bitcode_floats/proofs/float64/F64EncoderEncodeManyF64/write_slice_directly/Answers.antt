@@ -13,7 +13,7 @@ use Rattle.bitcode_coder.specs.Columns.{floats}
 use Rattle.bitcode_coder.specs.Spelling.{natural}
 use Rattle.bitcode_floats.specs.Floats.{float_datum, data_of_floats}
 use Rattle.bitcode_floats.proofs.FloatLemmas.{bits_of_data, writes_themselves}
-use Rattle.bitcode_floats.proofs.float64.F64EncoderEncoderF64.write_slice_directly.Goals as goal
+use Rattle.bitcode_floats.proofs.float64.F64EncoderEncodeManyF64.write_slice_directly.Goals as goal
 
 pub returns-clause-written : goal.returns-clause-written
 returns-clause-written c done =

@@ -4,7 +4,7 @@ use Rattle.std.proofs.lemmas.Result.{on_ok_weaker}
 use Rattle.bitcode_memory.specs.declared.error.Error.{Error}
 use Rattle.bitcode_coder.proofs.RefusalLemmas.{refused_weaker}
 use Rattle.bitcode_tuples.proofs.FieldLemmas.{joins_listed_as, overflows_listed_as}
-use Rattle.bitcode_tuples.proofs.part_encoder.AnyPartEncoderNth.encode_part_in_each.Goals as goal
+use Rattle.bitcode_tuples.proofs.part_encoder.AnyPartsEncoderNth.encode_part_in_each.Goals as goal
 
 pub returns-clause-joined : goal.returns-clause-joined
 returns-clause-joined g c =

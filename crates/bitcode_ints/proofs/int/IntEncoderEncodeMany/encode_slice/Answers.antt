@@ -3,7 +3,7 @@ use Rattle.bitcode_memory.specs.Fast.{fast_items}
 use Rattle.bitcode_shapes.specs.Datum.{number}
 use Rattle.bitcode_coder.specs.Columns.{ints}
 use Rattle.bitcode_coder.proofs.PushingLemmas.{joins_entries}
-use Rattle.bitcode_ints.proofs.int.IntEncoderEncoder.encode_slice.Goals as goal
+use Rattle.bitcode_ints.proofs.int.IntEncoderEncodeMany.encode_slice.Goals as goal
 
 pub returns-clause-joined : goal.returns-clause-joined
 returns-clause-joined g c =
