@@ -192,9 +192,7 @@ $reads_one
 """
 # How a value is read without a decoder.
 READS_ONE = """
-    fn reads_one() -> bool {
-        $answer
-    }
+    const READS_ONE: bool = $answer;
 
     #[inline(always)]
     fn read_one(alloc: Global, input: &mut &[u8]) -> Option<$name>
@@ -458,6 +456,6 @@ def item_reads_one(item, own):
 def decoder_text(simple, name, input, decoder, one, data="Data"):
     """The decoder of the type, which holds that one. `one` tells whether that one reads one value without a decoder."""
     row = {"simple": simple, "name": name, "input": input, "data": data}
-    row["answer"] = "true" if one else Template("<$data<$input> as Decoder<$name>>::reads_one()").substitute(row)
+    row["answer"] = "true" if one else Template("<$data<$input> as Decoder<$name>>::READS_ONE").substitute(row)
     one = "" if one is False else Template(READS_ONE).substitute(row)
     return Template(DECODER).substitute(row, decoder=decoder, reads_one=one)

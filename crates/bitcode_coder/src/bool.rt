@@ -190,9 +190,7 @@ impl<'a> Decoder<bool> for BoolDecoder<'a> {
         self.values.list_unchecked(alloc, count)
     }
 
-    fn reads_one() -> bool {
-        true
-    }
+    const READS_ONE: bool = true;
 
     #[inline(always)]
     fn read_one(alloc: Global, input: &mut &[u8]) -> Option<bool>
@@ -211,9 +209,7 @@ impl<'a> Decoder<bool> for BoolDecoder<'a> {
         Some(first)
     }
 
-    fn reads_lists() -> bool {
-        true
-    }
+    const READS_LISTS: bool = true;
 
     fn read_list(alloc: Global, input: &mut &[u8], count: usize) -> Option<Vec<bool>>
         ensures { IfSome result

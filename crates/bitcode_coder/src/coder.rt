@@ -429,9 +429,7 @@ pub trait Decoder<T: Shaped>: HoldsData {
     }
 
     /// Whether `decode` is to try [`Decoder::read_one`].
-    fn reads_one() -> bool {
-        false
-    }
+    const READS_ONE: bool = false;
 
     /// Reads one value straight from the front of the input, without a decoder. For a record, it takes two thirds of
     /// the time.
@@ -446,9 +444,7 @@ pub trait Decoder<T: Shaped>: HoldsData {
     }
 
     /// Whether lists of such values are to be read by [`Decoder::read_list`].
-    fn reads_lists() -> bool {
-        false
-    }
+    const READS_LISTS: bool = false;
 
     /// Reads `count` values straight from the front of the input, as [`Decoder::read_one`] reads one.
     fn read_list(_alloc: Global, _input: &mut &[u8], _count: usize) -> Option<Vec<T>>

@@ -151,9 +151,7 @@ impl<'a> Decoder<Duration> for DurationDecoder<'a> {
         self.data.decode()
     }
 
-    fn reads_one() -> bool {
-        true
-    }
+    const READS_ONE: bool = true;
 
     #[inline(always)]
     fn read_one(alloc: Global, input: &mut &[u8]) -> Option<Duration>

@@ -83,7 +83,7 @@ fn read_front<'a, T: Shaped, D: Decoder<T>>(alloc: Global, bytes: &'a [u8]) -> O
     ensures { IfSome result
         (λ read. IsDecodingOfFront T.data.makes T.data.shape bytes.now read.0 read.1.now) }
 {
-    if !D::reads_one() {
+    if !D::READS_ONE {
         return None;
     }
     let mut rest = bytes;

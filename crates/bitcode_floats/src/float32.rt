@@ -199,9 +199,7 @@ impl<'a> Decoder<f32> for F32Decoder<'a> {
         self.bits.floats_unchecked(alloc, count)
     }
 
-    fn reads_one() -> bool {
-        true
-    }
+    const READS_ONE: bool = true;
 
     #[inline(always)]
     fn read_one(alloc: Global, input: &mut &[u8]) -> Option<f32>
@@ -219,9 +217,7 @@ impl<'a> Decoder<f32> for F32Decoder<'a> {
         Some(first)
     }
 
-    fn reads_lists() -> bool {
-        true
-    }
+    const READS_LISTS: bool = true;
 
     fn read_list(alloc: Global, input: &mut &[u8], count: usize) -> Option<Vec<f32>>
         ensures { IfSome result

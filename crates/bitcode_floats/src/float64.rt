@@ -282,9 +282,7 @@ impl<'a> Decoder<f64> for F64Decoder<'a> {
         floats_of(alloc, self.values.chunk_unchecked(count))
     }
 
-    fn reads_one() -> bool {
-        true
-    }
+    const READS_ONE: bool = true;
 
     #[inline(always)]
     fn read_one(alloc: Global, input: &mut &[u8]) -> Option<f64>
@@ -302,9 +300,7 @@ impl<'a> Decoder<f64> for F64Decoder<'a> {
         Some(first)
     }
 
-    fn reads_lists() -> bool {
-        true
-    }
+    const READS_LISTS: bool = true;
 
     fn read_list(alloc: Global, input: &mut &[u8], count: usize) -> Option<Vec<f64>>
         ensures { IfSome result

@@ -109,9 +109,7 @@ impl<'a, C: Checked<I>, I: Integer> Decoder<C> for CheckedIntDecoder<'a, C, I> {
         Ok(C::from_bits(bits).unwrap())
     }
 
-    fn reads_one() -> bool {
-        true
-    }
+    const READS_ONE: bool = true;
 
     #[inline(always)]
     fn read_one(alloc: Global, input: &mut &[u8]) -> Option<C>

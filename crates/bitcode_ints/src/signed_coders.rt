@@ -153,9 +153,7 @@ impl<'a> Decoder<i8> for I8Decoder<'a> {
         self.column.decode_many(alloc, count)
     }
 
-    fn reads_one() -> bool {
-        true
-    }
+    const READS_ONE: bool = true;
 
     #[inline(always)]
     fn read_one(alloc: Global, input: &mut &[u8]) -> Option<i8>
@@ -165,9 +163,7 @@ impl<'a> Decoder<i8> for I8Decoder<'a> {
         one_by_decoder::<i8, IntDecoder<'_, i8>>(alloc, input)
     }
 
-    fn reads_lists() -> bool {
-        true
-    }
+    const READS_LISTS: bool = true;
 
     fn read_list(alloc: Global, input: &mut &[u8], count: usize) -> Option<Vec<i8>>
         ensures { IfSome result (λ items. ReadsValues ⟦<i8 as Shaped>⟧.data.makes
@@ -319,9 +315,7 @@ impl<'a> Decoder<i16> for I16Decoder<'a> {
         self.column.decode_many(alloc, count)
     }
 
-    fn reads_one() -> bool {
-        true
-    }
+    const READS_ONE: bool = true;
 
     #[inline(always)]
     fn read_one(alloc: Global, input: &mut &[u8]) -> Option<i16>
@@ -331,9 +325,7 @@ impl<'a> Decoder<i16> for I16Decoder<'a> {
         one_by_decoder::<i16, IntDecoder<'_, i16>>(alloc, input)
     }
 
-    fn reads_lists() -> bool {
-        true
-    }
+    const READS_LISTS: bool = true;
 
     fn read_list(alloc: Global, input: &mut &[u8], count: usize) -> Option<Vec<i16>>
         ensures { IfSome result (λ items. ReadsValues ⟦<i16 as Shaped>⟧.data.makes
@@ -485,9 +477,7 @@ impl<'a> Decoder<i32> for I32Decoder<'a> {
         self.column.decode_many(alloc, count)
     }
 
-    fn reads_one() -> bool {
-        true
-    }
+    const READS_ONE: bool = true;
 
     #[inline(always)]
     fn read_one(alloc: Global, input: &mut &[u8]) -> Option<i32>
@@ -497,9 +487,7 @@ impl<'a> Decoder<i32> for I32Decoder<'a> {
         one_by_decoder::<i32, IntDecoder<'_, i32>>(alloc, input)
     }
 
-    fn reads_lists() -> bool {
-        true
-    }
+    const READS_LISTS: bool = true;
 
     fn read_list(alloc: Global, input: &mut &[u8], count: usize) -> Option<Vec<i32>>
         ensures { IfSome result (λ items. ReadsValues ⟦<i32 as Shaped>⟧.data.makes
@@ -651,9 +639,7 @@ impl<'a> Decoder<i64> for I64Decoder<'a> {
         self.column.decode_many(alloc, count)
     }
 
-    fn reads_one() -> bool {
-        true
-    }
+    const READS_ONE: bool = true;
 
     #[inline(always)]
     fn read_one(alloc: Global, input: &mut &[u8]) -> Option<i64>
@@ -663,9 +649,7 @@ impl<'a> Decoder<i64> for I64Decoder<'a> {
         one_by_decoder::<i64, IntDecoder<'_, i64>>(alloc, input)
     }
 
-    fn reads_lists() -> bool {
-        true
-    }
+    const READS_LISTS: bool = true;
 
     fn read_list(alloc: Global, input: &mut &[u8], count: usize) -> Option<Vec<i64>>
         ensures { IfSome result (λ items. ReadsValues ⟦<i64 as Shaped>⟧.data.makes
@@ -817,9 +801,7 @@ impl<'a> Decoder<i128> for I128Decoder<'a> {
         self.column.decode_many(alloc, count)
     }
 
-    fn reads_one() -> bool {
-        true
-    }
+    const READS_ONE: bool = true;
 
     #[inline(always)]
     fn read_one(alloc: Global, input: &mut &[u8]) -> Option<i128>
@@ -829,9 +811,7 @@ impl<'a> Decoder<i128> for I128Decoder<'a> {
         one_by_decoder::<i128, IntDecoder<'_, i128>>(alloc, input)
     }
 
-    fn reads_lists() -> bool {
-        true
-    }
+    const READS_LISTS: bool = true;
 
     fn read_list(alloc: Global, input: &mut &[u8], count: usize) -> Option<Vec<i128>>
         ensures { IfSome result (λ items. ReadsValues ⟦<i128 as Shaped>⟧.data.makes
@@ -983,9 +963,7 @@ impl<'a> Decoder<isize> for IsizeDecoder<'a> {
         self.column.decode_many(alloc, count)
     }
 
-    fn reads_one() -> bool {
-        true
-    }
+    const READS_ONE: bool = true;
 
     #[inline(always)]
     fn read_one(alloc: Global, input: &mut &[u8]) -> Option<isize>
@@ -995,9 +973,7 @@ impl<'a> Decoder<isize> for IsizeDecoder<'a> {
         one_by_decoder::<isize, IntDecoder<'_, isize>>(alloc, input)
     }
 
-    fn reads_lists() -> bool {
-        true
-    }
+    const READS_LISTS: bool = true;
 
     fn read_list(alloc: Global, input: &mut &[u8], count: usize) -> Option<Vec<isize>>
         ensures { IfSome result (λ items. ReadsValues ⟦<isize as Shaped>⟧.data.makes

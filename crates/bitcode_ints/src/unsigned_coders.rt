@@ -153,9 +153,7 @@ impl<'a> Decoder<u8> for U8Decoder<'a> {
         self.column.decode_many(alloc, count)
     }
 
-    fn reads_one() -> bool {
-        true
-    }
+    const READS_ONE: bool = true;
 
     #[inline(always)]
     fn read_one(alloc: Global, input: &mut &[u8]) -> Option<u8>
@@ -165,9 +163,7 @@ impl<'a> Decoder<u8> for U8Decoder<'a> {
         one_by_decoder::<u8, IntDecoder<'_, u8>>(alloc, input)
     }
 
-    fn reads_lists() -> bool {
-        true
-    }
+    const READS_LISTS: bool = true;
 
     fn read_list(alloc: Global, input: &mut &[u8], count: usize) -> Option<Vec<u8>>
         ensures { IfSome result (λ items. ReadsValues ⟦<u8 as Shaped>⟧.data.makes
@@ -319,9 +315,7 @@ impl<'a> Decoder<u16> for U16Decoder<'a> {
         self.column.decode_many(alloc, count)
     }
 
-    fn reads_one() -> bool {
-        true
-    }
+    const READS_ONE: bool = true;
 
     #[inline(always)]
     fn read_one(alloc: Global, input: &mut &[u8]) -> Option<u16>
@@ -331,9 +325,7 @@ impl<'a> Decoder<u16> for U16Decoder<'a> {
         one_by_decoder::<u16, IntDecoder<'_, u16>>(alloc, input)
     }
 
-    fn reads_lists() -> bool {
-        true
-    }
+    const READS_LISTS: bool = true;
 
     fn read_list(alloc: Global, input: &mut &[u8], count: usize) -> Option<Vec<u16>>
         ensures { IfSome result (λ items. ReadsValues ⟦<u16 as Shaped>⟧.data.makes
@@ -485,9 +477,7 @@ impl<'a> Decoder<u32> for U32Decoder<'a> {
         self.column.decode_many(alloc, count)
     }
 
-    fn reads_one() -> bool {
-        true
-    }
+    const READS_ONE: bool = true;
 
     #[inline(always)]
     fn read_one(alloc: Global, input: &mut &[u8]) -> Option<u32>
@@ -497,9 +487,7 @@ impl<'a> Decoder<u32> for U32Decoder<'a> {
         one_by_decoder::<u32, IntDecoder<'_, u32>>(alloc, input)
     }
 
-    fn reads_lists() -> bool {
-        true
-    }
+    const READS_LISTS: bool = true;
 
     fn read_list(alloc: Global, input: &mut &[u8], count: usize) -> Option<Vec<u32>>
         ensures { IfSome result (λ items. ReadsValues ⟦<u32 as Shaped>⟧.data.makes
@@ -651,9 +639,7 @@ impl<'a> Decoder<u64> for U64Decoder<'a> {
         self.column.decode_many(alloc, count)
     }
 
-    fn reads_one() -> bool {
-        true
-    }
+    const READS_ONE: bool = true;
 
     #[inline(always)]
     fn read_one(alloc: Global, input: &mut &[u8]) -> Option<u64>
@@ -663,9 +649,7 @@ impl<'a> Decoder<u64> for U64Decoder<'a> {
         one_by_decoder::<u64, IntDecoder<'_, u64>>(alloc, input)
     }
 
-    fn reads_lists() -> bool {
-        true
-    }
+    const READS_LISTS: bool = true;
 
     fn read_list(alloc: Global, input: &mut &[u8], count: usize) -> Option<Vec<u64>>
         ensures { IfSome result (λ items. ReadsValues ⟦<u64 as Shaped>⟧.data.makes
@@ -817,9 +801,7 @@ impl<'a> Decoder<u128> for U128Decoder<'a> {
         self.column.decode_many(alloc, count)
     }
 
-    fn reads_one() -> bool {
-        true
-    }
+    const READS_ONE: bool = true;
 
     #[inline(always)]
     fn read_one(alloc: Global, input: &mut &[u8]) -> Option<u128>
@@ -829,9 +811,7 @@ impl<'a> Decoder<u128> for U128Decoder<'a> {
         one_by_decoder::<u128, IntDecoder<'_, u128>>(alloc, input)
     }
 
-    fn reads_lists() -> bool {
-        true
-    }
+    const READS_LISTS: bool = true;
 
     fn read_list(alloc: Global, input: &mut &[u8], count: usize) -> Option<Vec<u128>>
         ensures { IfSome result (λ items. ReadsValues ⟦<u128 as Shaped>⟧.data.makes
@@ -983,9 +963,7 @@ impl<'a> Decoder<usize> for UsizeDecoder<'a> {
         self.column.decode_many(alloc, count)
     }
 
-    fn reads_one() -> bool {
-        true
-    }
+    const READS_ONE: bool = true;
 
     #[inline(always)]
     fn read_one(alloc: Global, input: &mut &[u8]) -> Option<usize>
@@ -995,9 +973,7 @@ impl<'a> Decoder<usize> for UsizeDecoder<'a> {
         one_by_decoder::<usize, IntDecoder<'_, usize>>(alloc, input)
     }
 
-    fn reads_lists() -> bool {
-        true
-    }
+    const READS_LISTS: bool = true;
 
     fn read_list(alloc: Global, input: &mut &[u8], count: usize) -> Option<Vec<usize>>
         ensures { IfSome result (λ items. ReadsValues ⟦<usize as Shaped>⟧.data.makes

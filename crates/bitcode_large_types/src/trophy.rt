@@ -185,9 +185,7 @@ impl<'a> Decoder<Trophy> for TrophyDecoder<'a> {
         self.fields.decode()
     }
 
-    fn reads_one() -> bool {
-        true
-    }
+    const READS_ONE: bool = true;
 
     #[inline(always)]
     fn read_one(alloc: Global, input: &mut &[u8]) -> Option<Trophy>

@@ -281,9 +281,7 @@ impl<T: Shaped + Drop, D: Decoder<T>, const N: usize> Decoder<[T; N]> for ArrayD
     }
 
     // All four are written here: the toolchain does not allow the trait's own where a size depends on `N`.
-    fn reads_one() -> bool {
-        D::reads_lists()
-    }
+    const READS_ONE: bool = D::READS_LISTS;
 
     #[inline(always)]
     fn read_one(alloc: Global, input: &mut &[u8]) -> Option<[T; N]>
@@ -298,9 +296,7 @@ impl<T: Shaped + Drop, D: Decoder<T>, const N: usize> Decoder<[T; N]> for ArrayD
         }
     }
 
-    fn reads_lists() -> bool {
-        false
-    }
+    const READS_LISTS: bool = false;
 
     fn read_list(_alloc: Global, _input: &mut &[u8], _count: usize) -> Option<Vec<[T; N]>> {
         None

@@ -206,9 +206,7 @@ impl<T: Shaped + Drop, F: ConvertFrom<T>, D: Decoder<T>> Decoder<F> for ConvertF
         F::convert_from(self.alloc, value)
     }
 
-    fn reads_one() -> bool {
-        D::reads_one()
-    }
+    const READS_ONE: bool = D::READS_ONE;
 
     #[inline(always)]
     fn read_one(alloc: Global, input: &mut &[u8]) -> Option<F> {

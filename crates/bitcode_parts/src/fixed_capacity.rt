@@ -96,9 +96,7 @@ impl<'a, T: Shaped + Default + Drop, D: Decoder<T>, const N: usize> Decoder<Arra
     }
 
     // All four are written here: the toolchain does not allow the trait's own where a size depends on `N`.
-    fn reads_one() -> bool {
-        false
-    }
+    const READS_ONE: bool = false;
 
     fn read_one(_alloc: Global, _input: &mut &[u8]) -> Option<ArrayVec<T, N>>
         ensures { IfSome result (λ t. ReadsValue ⟦<ArrayVec<T, N> as Shaped>⟧.data.makes
@@ -107,9 +105,7 @@ impl<'a, T: Shaped + Default + Drop, D: Decoder<T>, const N: usize> Decoder<Arra
         None
     }
 
-    fn reads_lists() -> bool {
-        false
-    }
+    const READS_LISTS: bool = false;
 
     fn read_list(_alloc: Global, _input: &mut &[u8], _count: usize) -> Option<Vec<ArrayVec<T, N>>>
         ensures { IfSome result (λ items. ReadsValues ⟦<ArrayVec<T, N> as Shaped>⟧.data.makes

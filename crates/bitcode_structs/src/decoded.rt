@@ -102,9 +102,7 @@ impl<P: Shaped + Drop, T: FromDecoded<P>, D: Decoder<P>> Decoder<T> for PrivateD
         Ok(T::from_decoded(Decoded { fields }))
     }
 
-    fn reads_one() -> bool {
-        D::reads_one()
-    }
+    const READS_ONE: bool = D::READS_ONE;
 
     #[inline(always)]
     fn read_one(alloc: Global, input: &mut &[u8]) -> Option<T> {

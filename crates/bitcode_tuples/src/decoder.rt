@@ -97,9 +97,7 @@ impl<P: Shaped + Drop, Q: Shaped, A: Decoder<P>, B: Decoder<Q>> Decoder<(P, Q)>
         Ok((first, second))
     }
 
-    fn reads_one() -> bool {
-        A::reads_one() && B::reads_one()
-    }
+    const READS_ONE: bool = A::READS_ONE && B::READS_ONE;
 
     #[inline(always)]
     fn read_one(alloc: Global, input: &mut &[u8]) -> Option<(P, Q)> {

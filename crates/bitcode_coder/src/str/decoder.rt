@@ -268,9 +268,7 @@ impl<'a> Decoder<String> for StrDecoder<'a> {
         Ok(String::from_str(self.alloc, text)?)
     }
 
-    fn reads_one() -> bool {
-        true
-    }
+    const READS_ONE: bool = true;
 
     #[inline(always)]
     fn read_one(alloc: Global, input: &mut &[u8]) -> Option<String>
@@ -289,9 +287,7 @@ impl<'a> Decoder<String> for StrDecoder<'a> {
         Some(first)
     }
 
-    fn reads_lists() -> bool {
-        true
-    }
+    const READS_LISTS: bool = true;
 
     fn read_list(alloc: Global, input: &mut &[u8], count: usize) -> Option<Vec<String>>
         ensures { IfSome result

@@ -82,13 +82,9 @@ impl<'a, const N: usize> Decoder<ArrayString<N>> for ArrayStringDecoder<'a, N> {
     }
 
     // Written here, since the value's size depends on `N`, which the toolchain does not allow for the trait's own.
-    fn reads_one() -> bool {
-        false
-    }
+    const READS_ONE: bool = false;
 
-    fn reads_lists() -> bool {
-        false
-    }
+    const READS_LISTS: bool = false;
 
     ghost same_shape = { refl };
 }

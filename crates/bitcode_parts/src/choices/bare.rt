@@ -120,9 +120,7 @@ impl<'a, const N: usize, const C_STYLE: bool, T: BareShaped<N>> Decoder<T>
     }
 
     // Written here, since the value's size depends on `N`, which the toolchain does not allow for the trait's own.
-    fn reads_one() -> bool {
-        true
-    }
+    const READS_ONE: bool = true;
 
     #[inline(always)]
     fn read_one(alloc: Global, input: &mut &[u8]) -> Option<T>
@@ -132,9 +130,7 @@ impl<'a, const N: usize, const C_STYLE: bool, T: BareShaped<N>> Decoder<T>
         Some(T::from_index(read_variant::<N>(alloc, input)?))
     }
 
-    fn reads_lists() -> bool {
-        false
-    }
+    const READS_LISTS: bool = false;
 
     ghost same_shape = { sym T.has_shape };
 }

@@ -194,9 +194,7 @@ impl<'a, T: Shaped, D: Decoder<T>> Decoder<Option<T>> for OptionDecoder<'a, D> {
         }
     }
 
-    fn reads_one() -> bool {
-        D::reads_one()
-    }
+    const READS_ONE: bool = D::READS_ONE;
 
     #[inline(always)]
     fn read_one(alloc: Global, input: &mut &[u8]) -> Option<Option<T>>

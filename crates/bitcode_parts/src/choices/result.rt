@@ -175,9 +175,7 @@ impl<'a, T: Shaped, E: Shaped, A: Decoder<T>, B: Decoder<E>> Decoder<Result<T, E
         }
     }
 
-    fn reads_one() -> bool {
-        A::reads_one() && B::reads_one()
-    }
+    const READS_ONE: bool = A::READS_ONE && B::READS_ONE;
 
     #[inline(always)]
     fn read_one(alloc: Global, input: &mut &[u8]) -> Option<Result<T, E>>

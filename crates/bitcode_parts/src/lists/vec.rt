@@ -355,9 +355,7 @@ impl<'a, T: Shaped + Drop, D: Decoder<T>> Decoder<Vec<T>> for VecDecoder<'a, D> 
         self.decode_as()
     }
 
-    fn reads_one() -> bool {
-        D::reads_lists()
-    }
+    const READS_ONE: bool = D::READS_LISTS;
 
     #[inline(always)]
     fn read_one(alloc: Global, input: &mut &[u8]) -> Option<Vec<T>>

@@ -20,9 +20,7 @@ impl<T1: Shaped + Drop, T2: Shaped, T3: Shaped, A: Decoder<T1>, B: Decoder<(T2, 
         Ok((t1, t2, t3))
     }
 
-    fn reads_one() -> bool {
-        <Self as Decoder<(T1, (T2, T3))>>::reads_one()
-    }
+    const READS_ONE: bool = <Self as Decoder<(T1, (T2, T3))>>::READS_ONE;
 
     #[inline(always)]
     fn read_one(alloc: Global, input: &mut &[u8]) -> Option<(T1, T2, T3)> {
@@ -49,9 +47,7 @@ impl<
         Ok((t1, t2, t3, t4))
     }
 
-    fn reads_one() -> bool {
-        <Self as Decoder<((T1, T2), (T3, T4))>>::reads_one()
-    }
+    const READS_ONE: bool = <Self as Decoder<((T1, T2), (T3, T4))>>::READS_ONE;
 
     #[inline(always)]
     fn read_one(alloc: Global, input: &mut &[u8]) -> Option<(T1, T2, T3, T4)> {
@@ -79,9 +75,7 @@ impl<
         Ok((t1, t2, t3, t4, t5))
     }
 
-    fn reads_one() -> bool {
-        <Self as Decoder<((T1, T2), (T3, T4, T5))>>::reads_one()
-    }
+    const READS_ONE: bool = <Self as Decoder<((T1, T2), (T3, T4, T5))>>::READS_ONE;
 
     #[inline(always)]
     fn read_one(alloc: Global, input: &mut &[u8]) -> Option<(T1, T2, T3, T4, T5)> {
@@ -112,9 +106,7 @@ impl<
         Ok((t1, t2, t3, t4, t5, t6))
     }
 
-    fn reads_one() -> bool {
-        <Self as Decoder<((T1, T2, T3), (T4, T5, T6))>>::reads_one()
-    }
+    const READS_ONE: bool = <Self as Decoder<((T1, T2, T3), (T4, T5, T6))>>::READS_ONE;
 
     #[inline(always)]
     fn read_one(alloc: Global, input: &mut &[u8]) -> Option<(T1, T2, T3, T4, T5, T6)> {
@@ -148,9 +140,7 @@ impl<
         Ok((t1, t2, t3, t4, t5, t6, t7))
     }
 
-    fn reads_one() -> bool {
-        <Self as Decoder<((T1, T2, T3), (T4, T5, T6, T7))>>::reads_one()
-    }
+    const READS_ONE: bool = <Self as Decoder<((T1, T2, T3), (T4, T5, T6, T7))>>::READS_ONE;
 
     #[inline(always)]
     fn read_one(alloc: Global, input: &mut &[u8]) -> Option<(T1, T2, T3, T4, T5, T6, T7)> {
@@ -185,9 +175,7 @@ impl<
         Ok((t1, t2, t3, t4, t5, t6, t7, t8))
     }
 
-    fn reads_one() -> bool {
-        <Self as Decoder<((T1, T2, T3, T4), (T5, T6, T7, T8))>>::reads_one()
-    }
+    const READS_ONE: bool = <Self as Decoder<((T1, T2, T3, T4), (T5, T6, T7, T8))>>::READS_ONE;
 
     #[inline(always)]
     fn read_one(alloc: Global, input: &mut &[u8]) -> Option<(T1, T2, T3, T4, T5, T6, T7, T8)> {

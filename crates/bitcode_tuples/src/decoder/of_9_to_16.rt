@@ -32,9 +32,7 @@ impl<
         Ok((t1, t2, t3, t4, t5, t6, t7, t8, t9))
     }
 
-    fn reads_one() -> bool {
-        <Self as Decoder<((T1, T2, T3, T4), (T5, T6, T7, T8, T9))>>::reads_one()
-    }
+    const READS_ONE: bool = <Self as Decoder<((T1, T2, T3, T4), (T5, T6, T7, T8, T9))>>::READS_ONE;
 
     #[inline(always)]
     fn read_one(alloc: Global, input: &mut &[u8]) -> Option<(T1, T2, T3, T4, T5, T6, T7, T8, T9)> {
@@ -71,9 +69,9 @@ impl<
         Ok((t1, t2, t3, t4, t5, t6, t7, t8, t9, t10))
     }
 
-    fn reads_one() -> bool {
-        <Self as Decoder<((T1, T2, T3, T4, T5), (T6, T7, T8, T9, T10))>>::reads_one()
-    }
+    const READS_ONE: bool = <Self as Decoder<
+        ((T1, T2, T3, T4, T5), (T6, T7, T8, T9, T10)),
+    >>::READS_ONE;
 
     #[inline(always)]
     fn read_one(
@@ -114,9 +112,9 @@ impl<
         Ok((t1, t2, t3, t4, t5, t6, t7, t8, t9, t10, t11))
     }
 
-    fn reads_one() -> bool {
-        <Self as Decoder<((T1, T2, T3, T4, T5), (T6, T7, T8, T9, T10, T11))>>::reads_one()
-    }
+    const READS_ONE: bool = <Self as Decoder<
+        ((T1, T2, T3, T4, T5), (T6, T7, T8, T9, T10, T11)),
+    >>::READS_ONE;
 
     #[inline(always)]
     fn read_one(
@@ -158,9 +156,9 @@ impl<
         Ok((t1, t2, t3, t4, t5, t6, t7, t8, t9, t10, t11, t12))
     }
 
-    fn reads_one() -> bool {
-        <Self as Decoder<((T1, T2, T3, T4, T5, T6), (T7, T8, T9, T10, T11, T12))>>::reads_one()
-    }
+    const READS_ONE: bool = <Self as Decoder<
+        ((T1, T2, T3, T4, T5, T6), (T7, T8, T9, T10, T11, T12)),
+    >>::READS_ONE;
 
     #[inline(always)]
     fn read_one(
@@ -205,9 +203,9 @@ impl<
         Ok((t1, t2, t3, t4, t5, t6, t7, t8, t9, t10, t11, t12, t13))
     }
 
-    fn reads_one() -> bool {
-        <Self as Decoder<((T1, T2, T3, T4, T5, T6), (T7, T8, T9, T10, T11, T12, T13))>>::reads_one()
-    }
+    const READS_ONE: bool = <Self as Decoder<
+        ((T1, T2, T3, T4, T5, T6), (T7, T8, T9, T10, T11, T12, T13)),
+    >>::READS_ONE;
 
     #[inline(always)]
     fn read_one(
@@ -256,14 +254,12 @@ impl<
         Ok((t1, t2, t3, t4, t5, t6, t7, t8, t9, t10, t11, t12, t13, t14))
     }
 
-    fn reads_one() -> bool {
-        <Self as Decoder<
-            (
-                (T1, T2, T3, T4, T5, T6, T7),
-                (T8, T9, T10, T11, T12, T13, T14),
-            ),
-        >>::reads_one()
-    }
+    const READS_ONE: bool = <Self as Decoder<
+        (
+            (T1, T2, T3, T4, T5, T6, T7),
+            (T8, T9, T10, T11, T12, T13, T14),
+        ),
+    >>::READS_ONE;
 
     #[inline(always)]
     fn read_one(
@@ -355,14 +351,12 @@ impl<
         ))
     }
 
-    fn reads_one() -> bool {
-        <Self as Decoder<
-            (
-                (T1, T2, T3, T4, T5, T6, T7),
-                (T8, T9, T10, T11, T12, T13, T14, T15),
-            ),
-        >>::reads_one()
-    }
+    const READS_ONE: bool = <Self as Decoder<
+        (
+            (T1, T2, T3, T4, T5, T6, T7),
+            (T8, T9, T10, T11, T12, T13, T14, T15),
+        ),
+    >>::READS_ONE;
 
     #[inline(always)]
     fn read_one(
@@ -478,14 +472,12 @@ impl<
         ))
     }
 
-    fn reads_one() -> bool {
-        <Self as Decoder<
-            (
-                (T1, T2, T3, T4, T5, T6, T7, T8),
-                (T9, T10, T11, T12, T13, T14, T15, T16),
-            ),
-        >>::reads_one()
-    }
+    const READS_ONE: bool = <Self as Decoder<
+        (
+            (T1, T2, T3, T4, T5, T6, T7, T8),
+            (T9, T10, T11, T12, T13, T14, T15, T16),
+        ),
+    >>::READS_ONE;
 
     #[inline(always)]
     fn read_one(
