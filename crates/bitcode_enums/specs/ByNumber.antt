@@ -19,6 +19,19 @@ shape_at place no_shapes = never_shape
 shape_at zero (shape_and s ss) = s
 shape_at (suc place) (shape_and s ss) = shape_at place ss
 
+-- the same in a list
+abbrev pub shape_among : ℕ → List Shape → Shape
+shape_among place shapes = slice_index_or shapes place never_shape
+
+-- the shapes of so many variants from a number on
+abbrev pub shapes_from : (first count : ℕ) → Shapes → List Shape
+shapes_from first zero shapes = []
+shapes_from first (suc count) shapes = shape_at first shapes ∷ shapes_from (first + 1) count shapes
+
+-- these are the shapes of the payloads of the variants from a number on
+abbrev pub AreShapesOf : Shapes → (first : ℕ) → List Shape → Type 0
+AreShapesOf shapes first among = among ≡ shapes_from first (length among) shapes
+
 -- the columns of the variant at an index
 abbrev pub columns_at : ℕ → List Columns → Columns
 columns_at place lists = slice_index_or lists place no_columns

@@ -1,5 +1,5 @@
 -- A statement about the payload of one variant, as a statement about all variants.
-use Rattle.std.proofs.Common.{◌≡◌, ℕ, suc, ◌+◌, ◌-◌, List, [], ◌∷◌, ◌++◌, length, map, drop, inl, inr, refl, sym, ap, ap₂, ◌∙◌, append_assoc, append-nil, arith}
+use Rattle.std.proofs.Common.{◌≡◌, ℕ, zero, suc, ◌+◌, ◌-◌, ◌<◌, List, [], ◌∷◌, ◌++◌, length, map, drop, inl, inr, refl, sym, ap, ap₂, subst, ◌∙◌, append_assoc, append-nil, arith}
 use Rattle.std.proofs.lemmas.List.{drop_all, length-append, map-append}
 use Rattle.std.specs.Prelude.{◌⊎◌}
 use Rattle.bitcode_shapes.specs.Datum.{Datum}
@@ -8,7 +8,8 @@ use Rattle.bitcode_shapes.specs.Choices.{ListsLast, ListsVariant, MakesLast, Mak
 use Rattle.bitcode_coder.specs.Columns.{Columns, emptied}
 use Rattle.bitcode_coder.specs.Coder.{written_columns, JoinsListing, OverflowsWithListing, TakesDatum}
 use Rattle.bitcode_parts.specs.Payloads.{HasPayloads}
-use Rattle.bitcode_enums.specs.ByNumber.{shape_at, all_columns, bare_columns, AreColumnsOf, index_either, joins_either, overflows_either, takes_either}
+use Rattle.bitcode_enums.specs.ByNumber.{shape_at, shape_among, all_columns, bare_columns, AreColumnsOf, AreShapesOf, shapes_from, index_either, joins_either, overflows_either, takes_either}
+use Rattle.bitcode_enums.specs.HeldColumns.{HeldPayloads, AreCounted, payloads_in, payloads_beside}
 use Rattle.bitcode_enums.specs.WritingLaws.{first_has_payloads}
 
 -- ---- the last variant
@@ -98,6 +99,51 @@ module _ (shapes : Shapes) (first second end : ℕ) (front behind : List Columns
 -- the columns of the first variant, and those of the ones behind it
 pub columns_and : {a b : Columns} {more others : List Columns} → a ≡ b → more ≡ others → a ∷ more ≡ b ∷ others
 columns_and first behind = ap₂ (λ c cs. c ∷ cs) first behind
+
+-- ---- the payloads of some variants, which a decoder holds
+
+pub counted_in : {D E : Type 0} (part : E → D) {held : HeldPayloads D} {first end : ℕ} → AreCounted held first end → AreCounted (payloads_in part held) first end
+counted_in part counted = record {
+  shapes = counted.shapes;
+  lists = λ e. counted.lists (part e);
+}
+
+module _ {A B E : Type 0} (first_of : E → A) (second_of : E → B) {a : HeldPayloads A} {b : HeldPayloads B} {first second end : ℕ} where
+  pub counted_beside : AreCounted a first second → AreCounted b second end → AreCounted (payloads_beside first_of second_of a b) first end
+  counted_beside f s = record {
+    shapes = let sum = length-append a.shapes b.shapes in let front = f.shapes in let behind = s.shapes in omega (arith, sum, front, behind);
+    lists = λ e.
+        let sum = length-append (a.lists (first_of e)) (b.lists (second_of e)) in
+        let front = f.lists (first_of e) in
+        let behind = s.lists (second_of e) in
+        omega (arith, sum, front, behind);
+  }
+
+-- the shape of the first variant, and those of the ones behind it
+pub shapes_and : {s t : Shape} {more others : List Shape} → s ≡ t → more ≡ others → s ∷ more ≡ t ∷ others
+shapes_and first behind = ap₂ (λ s ss. s ∷ ss) first behind
+
+module _ (shapes : Shapes) where
+  -- the shapes of one group of variants, and of the one behind it
+  pub shapes_beside : (first second : ℕ) (front behind : List Shape) → first + length front ≡ second → AreShapesOf shapes first front → AreShapesOf shapes second behind
+      → AreShapesOf shapes first (front ++ behind)
+  shapes_beside first second [] behind counted f b = subst (λ n. behind ≡ shapes_from n (length behind) shapes) (omega (arith, counted)) b
+  shapes_beside first second (s ∷ more) behind counted f b =
+      let here : s ≡ shape_at first shapes = cc in
+      let later : more ≡ shapes_from (first + 1) (length more) shapes = cc in
+      shapes_and here (shapes_beside (first + 1) second more behind (omega (arith, counted)) later b)
+
+  shape_behind : (among : List Shape) (first place : ℕ) → AreShapesOf shapes first among → place < length among → shape_among place among ≡ shape_at (first + place) shapes
+  shape_behind [] first place are below = absurd (omega (arith, below))
+  shape_behind (s ∷ more) first zero are below =
+      let here : s ≡ shape_at first shapes = cc in here ∙ ap (λ n. shape_at n shapes) (omega arith)
+  shape_behind (s ∷ more) first (suc place) are below =
+      let later : more ≡ shapes_from (first + 1) (length more) shapes = cc in
+      shape_behind more (first + 1) place later (omega (arith, below)) ∙ ap (λ n. shape_at n shapes) (omega arith)
+
+  -- of all variants
+  pub shape_of_number : (among : List Shape) → AreShapesOf shapes 0 among → (number : ℕ) → number < length among → shape_among (number - 0) among ≡ shape_at number shapes
+  shape_of_number among are number below = shape_behind among 0 (number - 0) are (omega (arith, below)) ∙ ap (λ n. shape_at n shapes) (omega arith)
 
 -- ---- all variants
 

@@ -11,3 +11,4 @@ pub mod EachVariant
 pub mod EnumData
 pub mod ByNumberRows
 pub mod Told
+pub mod PlacedShapes
