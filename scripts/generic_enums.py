@@ -26,9 +26,11 @@ pub struct ${simple}Columns<$es> {
     all: $encoders,
 }
 
-impl<$buffers> VariantColumns for ${simple}Columns<$es> {
-    ghost columns = { columns_in (λ c. c.all) ⟦<$encoders as VariantColumns>⟧.columns };
+impl<$hold_columns> HoldsVariantColumns for ${simple}Columns<$es> {
+    ghost columns = { columns_in (λ c. c.all) ⟦<$encoders as HoldsVariantColumns>⟧.columns };
+}
 
+impl<$buffers> VariantColumns for ${simple}Columns<$es> {
     fn new(alloc: Global) -> Self {
         ${simple}Columns { all: VariantColumns::new(alloc) }
     }
@@ -57,14 +59,21 @@ pub struct ${simple}Payloads<$of_payloads, $ds> {
     all: Decoders$count<At<0>, $of_payloads, $ds>,
 }
 
-impl<$input, $shaped, $decoding> VariantPayloads<$input, At<0>, At<$count>, $name> for ${simple}Payloads<($payloads), $ds> {
-    ghost held = { payloads_in (λ d. d.all)
-        ⟦<$decoders as VariantPayloads<$input, At<0>, At<$count>, $name>>⟧.held };
+impl<$of_payloads, $hold_data> HoldsPayloads for ${simple}Payloads<$of_payloads, $ds> {
+    ghost held = { payloads_in (λ d. d.all) ⟦<Decoders$count<At<0>, $of_payloads, $ds> as HoldsPayloads>⟧.held };
+}
 
+impl<$of_payloads, $new> NewPayloads for ${simple}Payloads<$of_payloads, $ds> {
     fn new(alloc: Global) -> Self {
-        ${simple}Payloads { all: VariantPayloads::<At<0>, At<$count>, $name>::new(alloc) }
+        ${simple}Payloads { all: NewPayloads::new(alloc) }
     }
+}
 
+impl<$shaped, $hold_data> PayloadsOf<At<0>, At<$count>, $name> for ${simple}Payloads<($payloads), $ds> {
+    ghost counted = { record { shapes = refl; lists = λ d. refl } };
+}
+
+impl<$input, $shaped, $views> PayloadsView<$input, At<0>, At<$count>, $name> for ${simple}Payloads<($payloads), $ds> {
     fn read_at(
         &mut self,
         number: usize,
@@ -73,26 +82,30 @@ impl<$input, $shaped, $decoding> VariantPayloads<$input, At<0>, At<$count>, $nam
         strict: bool,
         free: &mut u128,
     ) -> Result<bool, Error> {
-        VariantPayloads::<At<0>, At<$count>, $name>::read_at(&mut self.all, number, input, k, strict, free)
+        PayloadsView::<At<0>, At<$count>, $name>::read_at(&mut self.all, number, input, k, strict, free)
     }
-
-    fn decode_at(&mut self, number: usize) -> Result<$name, Error> {
-        VariantPayloads::<At<0>, At<$count>, $name>::decode_at(&mut self.all, number)
-    }
-
-    fn sized(&self) {}
 }
 
-type ColumnsOf$arguments = ${simple}Columns<$all_encoders>;
+impl<$shaped, $decoding> PayloadsDecoder<At<0>, At<$count>, $name> for ${simple}Payloads<($payloads), $ds> {
+    ghost makes_free = { $makes_free };
 
-type PayloadsOf<$input, $types> = ${simple}Payloads<($payloads), $all_decoders>;
+    fn decode_at(&mut self, number: usize) -> Result<$name, Error> {
+        PayloadsDecoder::<At<0>, At<$count>, $name>::decode_at(&mut self.all, number)
+    }
+
+    ghost same_shapes = { $same_shapes };
+}
+
+type Columns$arguments = ${simple}Columns<$all_encoders>;
+
+type Decoders<$input, $types> = ${simple}Payloads<($payloads), $all_decoders>;
 
 impl$has_encoder HasEncoder for $name {
-    type Encoder = EnumEncoder<$count, ColumnsOf$arguments>;
+    type Encoder = EnumEncoder<$count, Columns$arguments>;
 }
 
 impl$has_decoder HasDecoder<$input> for $name {
-    type Decoder = EnumDecoder<$input, $count, $name, PayloadsOf<$input, $types>>;
+    type Decoder = EnumDecoder<$input, $count, $name, Decoders<$input, $types>>;
 }
 
 impl$owned DecodeOwned for $name {}
@@ -155,22 +168,35 @@ class Generic(Numbered):
             found = f"columns_and ({law_of_shape(encoder)} {place}.{name}) " + (found if found == "refl" else f"({found})")
         return found
 
+    def shapes_alike(self, decoders):
+        """That the decoders read payloads of the variants' shapes."""
+        found = "refl"
+        for decoder in reversed(decoders):
+            found = f"shapes_and {decoder}.same_shape " + (found if found == "refl" else f"({found})")
+        return found
+
     def laws(self):
         """The laws that the file names."""
         several = any(len(variant.fields) > 1 for variant in self.enum.variants)
-        return {"columns_and", "both_of_shape"} if several else {"columns_and"}
+        return {"columns_and", "shapes_and", *(["both_of_shape"] if several else [])}
 
     def coders(self):
         """What is written of the coders that are parameters."""
         (encoders, es), ds = self.encoders_of(), self.letters(self.count, "D", "P", "R")
         shaped = ", ".join(f"{name}: Shaped" for name in self.enum.types)
-        decoding = [f"{name}: NewDecoder + View<{self.input}> + Decoder<{type}>" for name, type in zip(ds, self.types)]
+        decoding = [f"{name}: Decoder<{type}>" for name, type in zip(ds, self.types)]
         return {
             "shaped": shaped,
             "es": ", ".join(name for name, _ in es),
             "ds": ", ".join(ds),
             "encoding": f"impl<{shaped}, {', '.join(f'{name}: Buffer + Encoder<{type}>' for name, type in es)}>",
             "buffers": ", ".join(f"{name}: Buffer" for name, _ in es),
+            "hold_columns": ", ".join(f"{name}: HoldsColumns" for name, _ in es),
+            "hold_data": ", ".join(f"{name}: HoldsData" for name in ds),
+            "makes_free": " && ".join(f"{name}.makes_free" for name in ds),
+            "same_shapes": self.shapes_alike(ds),
+            "new": ", ".join(f"{name}: NewDecoder" for name in ds),
+            "views": ", ".join(f"{name}: NewDecoder + View<{self.input}>" for name in ds),
             "encoders": f"Encoders{self.count}<At<0>, {', '.join(encoders)}>",
             "decoding": ", ".join(decoding),
             "of_payloads": self.letters(1, "V", "W", "X")[0],
@@ -186,16 +212,18 @@ class Generic(Numbered):
         """The file of the type."""
         self.check()
         enum, count = self.enum, self.count
-        used = set("At DecodeOwned Enum EnumDecoder EnumEncoder EnumOf Error HasDecoder HasEncoder Shaped "
-                   "VariantColumns VariantPayloads WritesVariants told_as".split())
+        used = set("At DecodeOwned Enum EnumDecoder EnumEncoder EnumOf Error HasDecoder HasEncoder HoldsPayloads "
+                   "HoldsVariantColumns NewPayloads PayloadsDecoder PayloadsOf PayloadsView Shaped VariantColumns "
+                   "WritesVariants told_as".split())
         used |= {f"{kind}{count}" for kind in ("Decoders", "Encoders", "OneOf", "Variants")}
         used |= {"TupleEncoder"} if any(len(variant.fields) > 1 for variant in enum.variants) else set()
         uses = {f"use bitcode::{{{', '.join(sorted(used))}}};", *(f"use {path};" for path in imports)}
-        uses.add("use bitcode::coder::{Buffer, Decoder, Encoder, NewDecoder, View};")
+        uses.add("use bitcode::coder::{Buffer, Decoder, Encoder, HoldsColumns, HoldsData, NewDecoder, View};")
         row = self.of_group(self.groups[0]) | {"types": ", ".join(enum.types)}
         row |= {"simple": enum.name, "count": count, "input": self.input, "arguments": arguments(enum)}
         row |= {"has_encoder": bounds(enum, "HasEncoder"), "owned": bounds(enum, "DecodeOwned")}
         row |= {"has_decoder": bounds(enum, f"HasDecoder<{self.input}>", self.input)}
         opening = Template(OPENING).substitute(self.opening(uses, self.laws()))
+        opening = opening.replace("Prelude.{◌≡◌};", "Prelude.{◌≡◌, ◌&&◌};")
         variants = Template(VARIANTS).substitute(self.of_group(self.groups[0]))
         return opening + variants + Template(COLUMNS + PAYLOADS).substitute(row | self.coders())

@@ -61,9 +61,11 @@ pub struct $columns {
     all: Columns,
 }
 
-impl VariantColumns for $columns {
-    ghost columns = { columns_in (λ c. c.all) ⟦<Columns as VariantColumns>⟧.columns };
+impl HoldsVariantColumns for $columns {
+    ghost columns = { columns_in (λ c. c.all) ⟦<Columns as HoldsVariantColumns>⟧.columns };
+}
 
+impl VariantColumns for $columns {
     fn new(alloc: Global) -> Self {
         $columns { all: VariantColumns::new(alloc) }
     }
@@ -132,22 +134,34 @@ pub struct $part<$input> {
 
 """
 # What reads the payloads of some variants, or of all of them.
-PAYLOADS = """impl<$input> VariantPayloads<$input, At<$first>, At<$end>, $name> for $part<$input> {
-    ghost held = { payloads_in (λ d. d.all) ⟦<$alias<$input> as VariantPayloads<$input, At<$first>, At<$end>, $name>>⟧.held };
+PAYLOADS = """impl<$input> HoldsPayloads for $part<$input> {
+    ghost held = { payloads_in (λ d. d.all) ⟦<$alias<$input> as HoldsPayloads>⟧.held };
+}
 
+impl<$input> NewPayloads for $part<$input> {
     fn new(alloc: Global) -> Self {
-        $part { all: VariantPayloads::<At<$first>, At<$end>, $name>::new(alloc),$marked }
+        $part { all: NewPayloads::new(alloc),$marked }
     }
+}
 
+impl<$input> PayloadsOf<At<$first>, At<$end>, $name> for $part<$input> {
+    ghost counted = { record { shapes = refl; lists = λ d. refl } };
+}
+
+impl<$input> PayloadsView<$input, At<$first>, At<$end>, $name> for $part<$input> {
     fn read_at(&mut self, number: usize, input: &mut &$input [u8], k: usize, strict: bool, free: &mut u128) -> Result<bool, Error> {
-        VariantPayloads::<At<$first>, At<$end>, $name>::read_at(&mut self.all, number, input, k, strict, free)
+        PayloadsView::<At<$first>, At<$end>, $name>::read_at(&mut self.all, number, input, k, strict, free)
     }
+}
+
+impl<$input> PayloadsDecoder<At<$first>, At<$end>, $name> for $part<$input> {
+    ghost makes_free = { ⟦<$alias<$input> as PayloadsDecoder<At<$first>, At<$end>, $name>>⟧.makes_free };
 
     fn decode_at(&mut self, number: usize) -> Result<$name, Error> {
-        VariantPayloads::<At<$first>, At<$end>, $name>::decode_at(&mut self.all, number)
+        PayloadsDecoder::<At<$first>, At<$end>, $name>::decode_at(&mut self.all, number)
     }
 
-    fn sized(&self) {}
+    ghost same_shapes = { refl };
 }
 
 """
@@ -160,9 +174,11 @@ pub struct $part {
     all: $alias,
 }
 
-impl VariantColumns for $part {
-    ghost columns = { columns_in (λ c. c.all) ⟦<$alias as VariantColumns>⟧.columns };
+impl HoldsVariantColumns for $part {
+    ghost columns = { columns_in (λ c. c.all) ⟦<$alias as HoldsVariantColumns>⟧.columns };
+}
 
+impl VariantColumns for $part {
     fn new(alloc: Global) -> Self {
         $part { all: VariantColumns::new(alloc) }
     }
@@ -394,8 +410,9 @@ class Numbered:
         """The file of the type."""
         payloads = self.payloads()
         imports = {*imports, "std::marker::PhantomData"} if MARK in payloads["parts"] + payloads["whole"] else imports
-        used = set("At Enum EnumDecoder EnumEncoder EnumOf Error HasDecoder HasEncoder Shaped "
-                   "VariantColumns VariantPayloads WritesVariants told_as".split())
+        used = set("At Enum EnumDecoder EnumEncoder EnumOf Error HasDecoder HasEncoder HoldsPayloads "
+                   "HoldsVariantColumns NewPayloads PayloadsDecoder PayloadsOf PayloadsView Shaped VariantColumns "
+                   "WritesVariants told_as".split())
         used |= {f"{kind}{len(numbers)}" for numbers in self.groups for kind in ("DecodersOf", "EncodersOf", "OneOf", "Variants")}
         has_parts = len(self.parts) > 1 or self.is_split
         used |= {"NotCompared"} if has_parts else set()

@@ -306,7 +306,7 @@ class Versions:
         return with_uses(file, imports), writer.crates
 
 
-ENCODES = r"(?:WritesVariants|VariantColumns|HasEncoder|HasField|InFields)"
+ENCODES = r"(?:WritesVariants|(?:Holds)?VariantColumns|HasEncoder|HasField|InFields)"
 # What of the file of a type only its encoder needs.
 BLOCKS = re.compile(
     rf"(?ms)^(?:///[^\n]*\n)?(?:#\[[^\n]*\n)*(?:pub struct \w+Columns\b|impl[^{{\n]*\b{ENCODES}\b[^{{\n]* for )[^\n]*\{{.*?^\}}\n\n?"

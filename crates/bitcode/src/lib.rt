@@ -92,13 +92,15 @@ pub mod own {
     pub use bitcode_coder::part::Part;
     pub use bitcode_derive::closed::reserve_as;
     use bitcode_derive::derive::HasDecoder;
-    pub use bitcode_enums::columns::VariantColumns;
+    pub use bitcode_enums::columns::{HoldsVariantColumns, VariantColumns};
     pub use bitcode_enums::decoder::EnumDecoder;
     pub use bitcode_enums::encoder::EnumEncoder;
     pub use bitcode_enums::enums::{Enum, EnumOf, told_as};
     pub use bitcode_enums::not_compared::NotCompared;
     pub use bitcode_enums::number::At;
-    pub use bitcode_enums::payloads::VariantPayloads;
+    pub use bitcode_enums::payloads::{
+        HoldsPayloads, NewPayloads, PayloadsDecoder, PayloadsOf, PayloadsView,
+    };
     pub use bitcode_enums::two_groups::TwoGroups;
     pub use bitcode_enums::variants::of_2::{
         Decoders2, DecodersOf2, Encoders2, EncodersOf2, OneOf2, Variants2,

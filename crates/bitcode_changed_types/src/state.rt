@@ -7,8 +7,9 @@ ghost use Rattle.bitcode_changed_types.specs.declared.state.State.{State};
 use crate::state_of1::StateOf1;
 use crate::state_of2::StateOf2;
 use bitcode::own::{
-    At, DecodersOf3, EncodersOf3, Enum, EnumDecoder, EnumEncoder, EnumOf, OneOf3, VariantColumns,
-    VariantPayloads, Variants3, WritesVariants, told_as,
+    At, DecodersOf3, EncodersOf3, Enum, EnumDecoder, EnumEncoder, EnumOf, HoldsPayloads,
+    HoldsVariantColumns, NewPayloads, OneOf3, PayloadsDecoder, PayloadsOf, PayloadsView,
+    VariantColumns, Variants3, WritesVariants, told_as,
 };
 use bitcode::sealed::{
     Earlier, Expected, OpenError, ReadsVersions, Version, Versioned, open_version,
@@ -108,9 +109,11 @@ pub struct StateColumns {
     all: Columns,
 }
 
-impl VariantColumns for StateColumns {
-    ghost columns = { columns_in (λ c. c.all) ⟦<Columns as VariantColumns>⟧.columns };
+impl HoldsVariantColumns for StateColumns {
+    ghost columns = { columns_in (λ c. c.all) ⟦<Columns as HoldsVariantColumns>⟧.columns };
+}
 
+impl VariantColumns for StateColumns {
     fn new(alloc: Global) -> Self {
         StateColumns {
             all: VariantColumns::new(alloc),
@@ -140,16 +143,23 @@ pub struct StatePayloads<'a> {
     all: Decoders<'a>,
 }
 
-impl<'a> VariantPayloads<'a, At<0>, At<3>, State> for StatePayloads<'a> {
-    ghost held = { payloads_in (λ d. d.all)
-        ⟦<Decoders<'a> as VariantPayloads<'a, At<0>, At<3>, State>>⟧.held };
+impl<'a> HoldsPayloads for StatePayloads<'a> {
+    ghost held = { payloads_in (λ d. d.all) ⟦<Decoders<'a> as HoldsPayloads>⟧.held };
+}
 
+impl<'a> NewPayloads for StatePayloads<'a> {
     fn new(alloc: Global) -> Self {
         StatePayloads {
-            all: VariantPayloads::<At<0>, At<3>, State>::new(alloc),
+            all: NewPayloads::new(alloc),
         }
     }
+}
 
+impl<'a> PayloadsOf<At<0>, At<3>, State> for StatePayloads<'a> {
+    ghost counted = { record { shapes = refl; lists = λ d. refl } };
+}
+
+impl<'a> PayloadsView<'a, At<0>, At<3>, State> for StatePayloads<'a> {
     fn read_at(
         &mut self,
         number: usize,
@@ -158,21 +168,18 @@ impl<'a> VariantPayloads<'a, At<0>, At<3>, State> for StatePayloads<'a> {
         strict: bool,
         free: &mut u128,
     ) -> Result<bool, Error> {
-        VariantPayloads::<At<0>, At<3>, State>::read_at(
-            &mut self.all,
-            number,
-            input,
-            k,
-            strict,
-            free,
-        )
+        PayloadsView::<At<0>, At<3>, State>::read_at(&mut self.all, number, input, k, strict, free)
     }
+}
+
+impl<'a> PayloadsDecoder<At<0>, At<3>, State> for StatePayloads<'a> {
+    ghost makes_free = { ⟦<Decoders<'a> as PayloadsDecoder<At<0>, At<3>, State>>⟧.makes_free };
 
     fn decode_at(&mut self, number: usize) -> Result<State, Error> {
-        VariantPayloads::<At<0>, At<3>, State>::decode_at(&mut self.all, number)
+        PayloadsDecoder::<At<0>, At<3>, State>::decode_at(&mut self.all, number)
     }
 
-    fn sized(&self) {}
+    ghost same_shapes = { refl };
 }
 
 impl HasEncoder for State {

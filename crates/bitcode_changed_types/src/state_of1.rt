@@ -6,7 +6,8 @@ ghost use Rattle.bitcode.specs.ByHand.{payloads_in, refl};
 ghost use Rattle.bitcode_changed_types.specs.declared.state_of1.StateOf1.{StateOf1};
 
 use bitcode::own::{
-    At, DecodersOf2, Enum, EnumDecoder, EnumOf, OneOf2, VariantPayloads, Variants2, told_as,
+    At, DecodersOf2, Enum, EnumDecoder, EnumOf, HoldsPayloads, NewPayloads, OneOf2,
+    PayloadsDecoder, PayloadsOf, PayloadsView, Variants2, told_as,
 };
 use bitcode::{DecodeOwned, Error, HasDecoder, Shaped};
 use std::alloc::Global;
@@ -76,16 +77,23 @@ pub struct StateOf1Payloads<'a> {
     all: Decoders<'a>,
 }
 
-impl<'a> VariantPayloads<'a, At<0>, At<2>, StateOf1> for StateOf1Payloads<'a> {
-    ghost held = { payloads_in (λ d. d.all)
-        ⟦<Decoders<'a> as VariantPayloads<'a, At<0>, At<2>, StateOf1>>⟧.held };
+impl<'a> HoldsPayloads for StateOf1Payloads<'a> {
+    ghost held = { payloads_in (λ d. d.all) ⟦<Decoders<'a> as HoldsPayloads>⟧.held };
+}
 
+impl<'a> NewPayloads for StateOf1Payloads<'a> {
     fn new(alloc: Global) -> Self {
         StateOf1Payloads {
-            all: VariantPayloads::<At<0>, At<2>, StateOf1>::new(alloc),
+            all: NewPayloads::new(alloc),
         }
     }
+}
 
+impl<'a> PayloadsOf<At<0>, At<2>, StateOf1> for StateOf1Payloads<'a> {
+    ghost counted = { record { shapes = refl; lists = λ d. refl } };
+}
+
+impl<'a> PayloadsView<'a, At<0>, At<2>, StateOf1> for StateOf1Payloads<'a> {
     fn read_at(
         &mut self,
         number: usize,
@@ -94,7 +102,7 @@ impl<'a> VariantPayloads<'a, At<0>, At<2>, StateOf1> for StateOf1Payloads<'a> {
         strict: bool,
         free: &mut u128,
     ) -> Result<bool, Error> {
-        VariantPayloads::<At<0>, At<2>, StateOf1>::read_at(
+        PayloadsView::<At<0>, At<2>, StateOf1>::read_at(
             &mut self.all,
             number,
             input,
@@ -103,12 +111,16 @@ impl<'a> VariantPayloads<'a, At<0>, At<2>, StateOf1> for StateOf1Payloads<'a> {
             free,
         )
     }
+}
+
+impl<'a> PayloadsDecoder<At<0>, At<2>, StateOf1> for StateOf1Payloads<'a> {
+    ghost makes_free = { ⟦<Decoders<'a> as PayloadsDecoder<At<0>, At<2>, StateOf1>>⟧.makes_free };
 
     fn decode_at(&mut self, number: usize) -> Result<StateOf1, Error> {
-        VariantPayloads::<At<0>, At<2>, StateOf1>::decode_at(&mut self.all, number)
+        PayloadsDecoder::<At<0>, At<2>, StateOf1>::decode_at(&mut self.all, number)
     }
 
-    fn sized(&self) {}
+    ghost same_shapes = { refl };
 }
 
 impl<'a> HasDecoder<'a> for StateOf1 {

@@ -6,7 +6,8 @@ ghost use Rattle.bitcode.specs.ByHand.{payloads_in, refl};
 ghost use Rattle.bitcode_changed_types.specs.declared.state_of2.StateOf2.{StateOf2};
 
 use bitcode::own::{
-    At, DecodersOf3, Enum, EnumDecoder, EnumOf, OneOf3, VariantPayloads, Variants3, told_as,
+    At, DecodersOf3, Enum, EnumDecoder, EnumOf, HoldsPayloads, NewPayloads, OneOf3,
+    PayloadsDecoder, PayloadsOf, PayloadsView, Variants3, told_as,
 };
 use bitcode::{DecodeOwned, Error, HasDecoder, Shaped};
 use std::alloc::Global;
@@ -87,16 +88,23 @@ pub struct StateOf2Payloads<'a> {
     all: Decoders<'a>,
 }
 
-impl<'a> VariantPayloads<'a, At<0>, At<3>, StateOf2> for StateOf2Payloads<'a> {
-    ghost held = { payloads_in (λ d. d.all)
-        ⟦<Decoders<'a> as VariantPayloads<'a, At<0>, At<3>, StateOf2>>⟧.held };
+impl<'a> HoldsPayloads for StateOf2Payloads<'a> {
+    ghost held = { payloads_in (λ d. d.all) ⟦<Decoders<'a> as HoldsPayloads>⟧.held };
+}
 
+impl<'a> NewPayloads for StateOf2Payloads<'a> {
     fn new(alloc: Global) -> Self {
         StateOf2Payloads {
-            all: VariantPayloads::<At<0>, At<3>, StateOf2>::new(alloc),
+            all: NewPayloads::new(alloc),
         }
     }
+}
 
+impl<'a> PayloadsOf<At<0>, At<3>, StateOf2> for StateOf2Payloads<'a> {
+    ghost counted = { record { shapes = refl; lists = λ d. refl } };
+}
+
+impl<'a> PayloadsView<'a, At<0>, At<3>, StateOf2> for StateOf2Payloads<'a> {
     fn read_at(
         &mut self,
         number: usize,
@@ -105,7 +113,7 @@ impl<'a> VariantPayloads<'a, At<0>, At<3>, StateOf2> for StateOf2Payloads<'a> {
         strict: bool,
         free: &mut u128,
     ) -> Result<bool, Error> {
-        VariantPayloads::<At<0>, At<3>, StateOf2>::read_at(
+        PayloadsView::<At<0>, At<3>, StateOf2>::read_at(
             &mut self.all,
             number,
             input,
@@ -114,12 +122,16 @@ impl<'a> VariantPayloads<'a, At<0>, At<3>, StateOf2> for StateOf2Payloads<'a> {
             free,
         )
     }
+}
+
+impl<'a> PayloadsDecoder<At<0>, At<3>, StateOf2> for StateOf2Payloads<'a> {
+    ghost makes_free = { ⟦<Decoders<'a> as PayloadsDecoder<At<0>, At<3>, StateOf2>>⟧.makes_free };
 
     fn decode_at(&mut self, number: usize) -> Result<StateOf2, Error> {
-        VariantPayloads::<At<0>, At<3>, StateOf2>::decode_at(&mut self.all, number)
+        PayloadsDecoder::<At<0>, At<3>, StateOf2>::decode_at(&mut self.all, number)
     }
 
-    fn sized(&self) {}
+    ghost same_shapes = { refl };
 }
 
 impl<'a> HasDecoder<'a> for StateOf2 {

@@ -10,6 +10,13 @@ ghost use Rattle.bitcode_enums.specs.ByNumber.{all_columns};
 use bitcode_memory::error::{Error, Reason};
 use std::alloc::Global;
 
+/// What holds the columns of the payloads of consecutive variants. It has no functions, so that the checker passes it
+/// faster than [`VariantColumns`].
+pub trait HoldsVariantColumns {
+    // what they hold
+    ghost columns: { HeldColumns Self };
+}
+
 /// The columns of the payloads of consecutive variants: `Encoders2` to `Encoders4`, with one encoder for each variant,
 /// [`TwoGroups`](crate::two_groups::TwoGroups) and [`NotCompared`](crate::not_compared::NotCompared) of these, and a
 /// struct that belongs to an enum.
@@ -23,9 +30,11 @@ use std::alloc::Global;
 ///     all: Columns,
 /// }
 ///
-/// impl VariantColumns for TwoColumns {
-///     ghost columns = { columns_in (λ c. c.all) ⟦<Columns as VariantColumns>⟧.columns };
+/// impl HoldsVariantColumns for TwoColumns {
+///     ghost columns = { columns_in (λ c. c.all) ⟦<Columns as HoldsVariantColumns>⟧.columns };
+/// }
 ///
+/// impl VariantColumns for TwoColumns {
 ///     fn new(alloc: Global) -> Self {
 ///         TwoColumns {
 ///             all: VariantColumns::new(alloc),
@@ -41,29 +50,26 @@ use std::alloc::Global;
 ///     }
 /// }
 /// ```
-pub trait VariantColumns {
-    // what they hold
-    ghost columns: { HeldColumns Self };
-
+pub trait VariantColumns: HoldsVariantColumns {
     /// Creates empty columns without allocating.
     fn new(alloc: Global) -> Self
-        ensures empty { columns.lists result ≡ map emptied (columns.lists result) }
-        ensures capacity { columns.capacity result ≡ 0 };
+        ensures empty { Self.columns.lists result ≡ map emptied (Self.columns.lists result) }
+        ensures capacity { Self.columns.capacity result ≡ 0 };
 
     /// Appends the columns of one variant after another to `out`, and empties them, as `Buffer::collect_into` does.
     fn collect_all(&mut self, out: &mut Vec<u8>) -> Result<(), Error>
         ensures written { OnOk result
             (out.new.items ≡ out.old.items ++ columns_bytes
-            (all_columns (columns.lists self.old))) }
+            (all_columns (Self.columns.lists self.old))) }
         ensures empty { OnOk result
-            (columns.lists self.new ≡ map emptied (columns.lists self.old)) }
+            (Self.columns.lists self.new ≡ map emptied (Self.columns.lists self.old)) }
         ensures begins { BeginsWith out.old.items out.new.items }
-        ensures form { map emptied (columns.lists self.new) ≡ map emptied
-            (columns.lists self.old) }
+        ensures form { map emptied (Self.columns.lists self.new) ≡ map emptied
+            (Self.columns.lists self.old) }
         ensures refused { IfErr result (λ e. e.reason ≡ Reason.OutOfMemory) };
 
     /// Drops all entries without allocating.
     fn clear_all(&mut self)
-        ensures empty { columns.lists self.new ≡ map emptied (columns.lists self.old) }
-        ensures capacity { columns.capacity self.new ≤ columns.capacity self.old };
+        ensures empty { Self.columns.lists self.new ≡ map emptied (Self.columns.lists self.old) }
+        ensures capacity { Self.columns.capacity self.new ≤ Self.columns.capacity self.old };
 }

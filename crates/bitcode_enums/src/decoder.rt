@@ -9,7 +9,7 @@ ghost use Rattle.bitcode_parts.specs.Variants.{variants_left, variants_owned};
 
 use crate::enums::{Enum, EnumOf};
 use crate::number::At;
-use crate::payloads::VariantPayloads;
+use crate::payloads::{HoldsPayloads, NewPayloads, PayloadsDecoder, PayloadsView};
 use bitcode_coder::coder::{Decoder, HoldsData, NewDecoder, View, both};
 use bitcode_coder::column_free::ColumnFree;
 use bitcode_memory::error::Error;
@@ -40,8 +40,7 @@ fn in_range(count: u128) -> u128
     count
 }
 
-impl<'a, const N: usize, T: EnumOf<N>, D: VariantPayloads<'a, At<0>, At<N>, T>> HoldsData
-    for EnumDecoder<'a, N, T, D> {
+impl<'a, const N: usize, T: EnumOf<N>, D: HoldsPayloads> HoldsData for EnumDecoder<'a, N, T, D> {
     ghost shape = { choice_shape T.each.variants.shapes };
 
     ghost held = { λ d. choices_of (variants_left d.variants) (D.held.lists d.payloads) };
@@ -51,8 +50,7 @@ impl<'a, const N: usize, T: EnumOf<N>, D: VariantPayloads<'a, At<0>, At<N>, T>> 
     ghost free_inside = { λ d. d.free };
 }
 
-impl<'a, const N: usize, T: EnumOf<N>, D: VariantPayloads<'a, At<0>, At<N>, T>> NewDecoder
-    for EnumDecoder<'a, N, T, D> {
+impl<'a, const N: usize, T: EnumOf<N>, D: NewPayloads> NewDecoder for EnumDecoder<'a, N, T, D> {
     fn new(alloc: Global) -> Self {
         EnumDecoder {
             variants: VariantDecoder::new(alloc),
@@ -70,10 +68,13 @@ impl<'a, const N: usize, T: EnumOf<N>, D: VariantPayloads<'a, At<0>, At<N>, T>> 
     }
 }
 
-impl<'a, const N: usize, T: EnumOf<N>, D: VariantPayloads<'a, At<0>, At<N>, T>> View<'a>
-    for EnumDecoder<'a, N, T, D> {
+impl<
+    'a,
+    const N: usize,
+    T: EnumOf<N>,
+    D: PayloadsView<'a, At<0>, At<N>, T> + PayloadsDecoder<At<0>, At<N>, T>,
+> View<'a> for EnumDecoder<'a, N, T, D> {
     fn read(&mut self, input: &mut &'a [u8], k: usize, strict: bool) -> Result<bool, Error> {
-        self.payloads.sized();
         let mut written = self.variants.read(input, k, strict)?;
         let mut free = 0;
         for number in 0..N {
@@ -88,20 +89,17 @@ impl<'a, const N: usize, T: EnumOf<N>, D: VariantPayloads<'a, At<0>, At<N>, T>> 
     }
 }
 
-impl<'a, const N: usize, T: EnumOf<N>, D: VariantPayloads<'a, At<0>, At<N>, T>> Decoder<T>
+impl<'a, const N: usize, T: EnumOf<N>, D: PayloadsDecoder<At<0>, At<N>, T>> Decoder<T>
     for EnumDecoder<'a, N, T, D> {
-    ghost makes_free = { D.held.makes_free };
+    ghost makes_free = { D.makes_free };
 
     fn decode(&mut self) -> Result<T, Error> {
-        self.payloads.sized();
         let variant = self.variants.decode();
         self.payloads.decode_at(variant as usize)
     }
 
-    // All four are written here: the toolchain does not allow the trait's own where a size depends on `N`.
-    fn reads_one() -> bool {
-        false
-    }
+    // They are written here: the toolchain does not allow the trait's own where a size depends on `N`.
+    const READS_ONE: bool = false;
 
     fn read_one(_alloc: Global, _input: &mut &[u8]) -> Option<T>
         ensures { IfSome result (λ t. ReadsValue T.data.makes (choice_shape T.each.variants.shapes)
@@ -110,9 +108,7 @@ impl<'a, const N: usize, T: EnumOf<N>, D: VariantPayloads<'a, At<0>, At<N>, T>> 
         None
     }
 
-    fn reads_lists() -> bool {
-        false
-    }
+    const READS_LISTS: bool = false;
 
     fn read_list(_alloc: Global, _input: &mut &[u8], _count: usize) -> Option<Vec<T>>
         ensures { IfSome result

@@ -6,7 +6,7 @@ ghost use Rattle.bitcode_enums.specs.ByNumberLaws.{each_has_payloads, whole_form
 ghost use Rattle.bitcode_enums.specs.Writing.{variant_columns};
 ghost use Rattle.bitcode_enums.specs.WritingLaws.{enum_of_shape};
 
-use crate::columns::VariantColumns;
+use crate::columns::{HoldsVariantColumns, VariantColumns};
 use crate::enums::{Enum, EnumOf};
 use crate::number::At;
 use crate::payload_columns::PayloadColumns;
@@ -34,7 +34,7 @@ pub struct EnumEncoder<const N: usize, C> {
     payloads: PayloadColumns<C>,
 }
 
-impl<const N: usize, C: VariantColumns> HoldsColumns for EnumEncoder<N, C> {
+impl<const N: usize, C: HoldsVariantColumns> HoldsColumns for EnumEncoder<N, C> {
     ghost columns = { λ e. variant_columns N (written_variants e.variants)
         (all_columns (C.columns.lists e.payloads.columns)) };
 
@@ -85,8 +85,11 @@ impl<const N: usize, T: EnumOf<N>> SaysVariant<T> for EnumVariant<N> {
     }
 }
 
-impl<const N: usize, C: VariantColumns, T: EnumOf<N> + WritesVariants<At<0>, At<N>, C>> Encoder<T>
-    for EnumEncoder<N, C> {
+impl<
+    const N: usize,
+    C: HoldsVariantColumns,
+    T: EnumOf<N> + WritesVariants<At<0>, At<N>, C>,
+> Encoder<T> for EnumEncoder<N, C> {
     fn encode(&mut self, t: &T) -> Result<(), Error> {
         self.variants.encode(Enum::variant(t));
         self.payloads.encode_payload::<N, T>(t)
@@ -101,9 +104,11 @@ impl<const N: usize, C: VariantColumns, T: EnumOf<N> + WritesVariants<At<0>, At<
     ghost surely = { λ e n h. absurd h };
 }
 
-impl<const N: usize, C: VariantColumns, T: EnumOf<N> + WritesVariants<At<0>, At<N>, C>> EncodeMany<
-    T,
-> for EnumEncoder<N, C> {
+impl<
+    const N: usize,
+    C: HoldsVariantColumns,
+    T: EnumOf<N> + WritesVariants<At<0>, At<N>, C>,
+> EncodeMany<T> for EnumEncoder<N, C> {
     fn is_primitive() -> bool {
         false
     }

@@ -1,11 +1,12 @@
 //! Coders that the checker does not compare field by field.
+ghost use Rattle.bitcode_enums.specs.ByNumberLaws.{counted_in};
 ghost use Rattle.bitcode_enums.specs.HeldColumns.{columns_in, payloads_in};
 ghost use Rattle.bitcode_enums.specs.declared.not_compared.NotCompared.{NotCompared};
 
-use crate::columns::VariantColumns;
+use crate::columns::{HoldsVariantColumns, VariantColumns};
 use crate::enums::Enum;
 use crate::number::VariantNumber;
-use crate::payloads::VariantPayloads;
+use crate::payloads::{HoldsPayloads, NewPayloads, PayloadsDecoder, PayloadsOf, PayloadsView};
 use crate::writes::WritesVariants;
 use bitcode_memory::error::Error;
 use std::alloc::Global;
@@ -23,10 +24,12 @@ pub enum NotCompared<D> {
     Never(Infallible),
 }
 
-impl<C: VariantColumns> VariantColumns for NotCompared<C> {
+impl<C: HoldsVariantColumns> HoldsVariantColumns for NotCompared<C> {
     ghost columns = { columns_in
         (elim [ NotCompared.All c ↦ c | NotCompared.Never n ↦ elim n [ ] ]) C.columns };
+}
 
+impl<C: VariantColumns> VariantColumns for NotCompared<C> {
     fn new(alloc: Global) -> Self {
         NotCompared::All(C::new(alloc))
     }
@@ -49,7 +52,7 @@ impl<C: VariantColumns> VariantColumns for NotCompared<C> {
 impl<
     First: VariantNumber,
     End: VariantNumber,
-    C: VariantColumns,
+    C: HoldsVariantColumns,
     T: WritesVariants<First, End, C>,
 > WritesVariants<First, End, NotCompared<C>> for T {
     fn write(&self, to: &mut NotCompared<C>) -> Result<(), Error> {
@@ -65,20 +68,33 @@ impl<
     ] };
 }
 
+impl<D: HoldsPayloads> HoldsPayloads for NotCompared<D> {
+    ghost held = { payloads_in
+        (elim [ NotCompared.All d ↦ d | NotCompared.Never n ↦ elim n [ ] ]) D.held };
+}
+
+impl<D: NewPayloads> NewPayloads for NotCompared<D> {
+    fn new(alloc: Global) -> Self {
+        NotCompared::All(D::new(alloc))
+    }
+}
+
+impl<First: VariantNumber, End: VariantNumber, T: Enum, D: PayloadsOf<First, End, T>> PayloadsOf<
+    First,
+    End,
+    T,
+> for NotCompared<D> {
+    ghost counted = { counted_in
+        (elim [ NotCompared.All d ↦ d | NotCompared.Never n ↦ elim n [ ] ]) D.counted };
+}
+
 impl<
     'a,
     First: VariantNumber,
     End: VariantNumber,
     T: Enum,
-    D: VariantPayloads<'a, First, End, T>,
-> VariantPayloads<'a, First, End, T> for NotCompared<D> {
-    ghost held = { payloads_in
-        (elim [ NotCompared.All d ↦ d | NotCompared.Never n ↦ elim n [ ] ]) D.held };
-
-    fn new(alloc: Global) -> Self {
-        NotCompared::All(D::new(alloc))
-    }
-
+    D: PayloadsView<'a, First, End, T>,
+> PayloadsView<'a, First, End, T> for NotCompared<D> {
     fn read_at(
         &mut self,
         number: usize,
@@ -92,17 +108,21 @@ impl<
             NotCompared::Never(never) => match *never {},
         }
     }
+}
+
+impl<
+    First: VariantNumber,
+    End: VariantNumber,
+    T: Enum,
+    D: PayloadsDecoder<First, End, T>,
+> PayloadsDecoder<First, End, T> for NotCompared<D> {
+    ghost makes_free = { D.makes_free };
+
+    ghost same_shapes = { D.same_shapes };
 
     fn decode_at(&mut self, number: usize) -> Result<T, Error> {
         match self {
             NotCompared::All(all) => Ok(all.decode_at(number)?),
-            NotCompared::Never(never) => match *never {},
-        }
-    }
-
-    fn sized(&self) {
-        match self {
-            NotCompared::All(all) => all.sized(),
             NotCompared::Never(never) => match *never {},
         }
     }

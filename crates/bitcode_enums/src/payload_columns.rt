@@ -5,7 +5,7 @@ ghost use Rattle.bitcode_coder.specs.Coder.{endless_room, IsWritingRefusal};
 ghost use Rattle.bitcode_enums.specs.ByNumber.{all_columns};
 ghost use Rattle.bitcode_enums.specs.Writing.{JoinsVariant, OverflowsWithVariant};
 
-use crate::columns::VariantColumns;
+use crate::columns::{HoldsVariantColumns, VariantColumns};
 use crate::enums::{Enum, EnumOf};
 use crate::number::At;
 use crate::writes::WritesVariants;
@@ -25,7 +25,7 @@ pub struct PayloadColumns<C> {
     columns: C,
 }
 
-impl<C: VariantColumns> HoldsColumns for PayloadColumns<C> {
+impl<C: HoldsVariantColumns> HoldsColumns for PayloadColumns<C> {
     ghost columns = { λ e. all_columns (C.columns.lists e.columns) };
 
     ghost room = { λ e. endless_room };
@@ -60,7 +60,7 @@ impl<C: VariantColumns> Buffer for PayloadColumns<C> {
     }
 }
 
-impl<C: VariantColumns> PayloadColumns<C> {
+impl<C: HoldsVariantColumns> PayloadColumns<C> {
     /// Reserves room for the payload of a value in the columns of its variant, and adds the payload to them.
     ///
     /// Errors: those of [`WritesVariants::write`].

@@ -1,6 +1,6 @@
 //! The payloads from which values of an enum are made, by the numbers of the variants.
-ghost use Rattle.std.specs.Prelude.{◌≡◌, ◌+◌, ◌-◌, ◌<◌, ◌≤◌, [], map, length, IsTrue, IsOk, IfOk, OnOk, IfErr};
-ghost use Rattle.std.specs.Prelude.{OnErr};
+ghost use Rattle.std.specs.Prelude.{◌≡◌, ◌+◌, ◌-◌, ◌<◌, ◌≤◌, Bool, [], map, length, IsTrue, IsOk, IfOk, OnOk};
+ghost use Rattle.std.specs.Prelude.{IfErr, OnErr};
 ghost use Rattle.bitcode_memory.specs.declared.error.Reason.{Reason};
 ghost use Rattle.bitcode_columns.specs.Reading.{Reads, IsEndOf};
 ghost use Rattle.bitcode_coder.specs.Coder.{IsReadingRefusal};
@@ -9,8 +9,8 @@ ghost use Rattle.bitcode_coder.specs.ColumnFree.{free_count, saturated};
 ghost use Rattle.bitcode_coder.specs.Spelling.{Spells};
 ghost use Rattle.bitcode_coder.specs.Strict.{JudgesData};
 ghost use Rattle.bitcode_parts.specs.Payloads.{payloads_of};
-ghost use Rattle.bitcode_enums.specs.HeldColumns.{HeldPayloads};
-ghost use Rattle.bitcode_enums.specs.ByNumber.{shape_at, KeepsOthers};
+ghost use Rattle.bitcode_enums.specs.HeldColumns.{HeldPayloads, AreCounted};
+ghost use Rattle.bitcode_enums.specs.ByNumber.{shape_among, AreShapesOf, KeepsOthers};
 
 use crate::enums::Enum;
 use crate::number::VariantNumber;
@@ -52,12 +52,13 @@ pub fn read_and_count<'a, D: NewDecoder + View<'a>>(
     Ok(written)
 }
 
-/// The data of the payloads of the variants of `T` from the number `First` to the one before `End`: `Decoders2` to
-/// `Decoders4`, with one decoder for each variant, [`TwoGroups`](crate::two_groups::TwoGroups) and
-/// [`NotCompared`](crate::not_compared::NotCompared) of these, and a struct that belongs to an enum.
+/// What holds the data of the payloads of consecutive variants: `Decoders2` to `Decoders4`, with one decoder for each
+/// variant, [`TwoGroups`](crate::two_groups::TwoGroups) and [`NotCompared`](crate::not_compared::NotCompared) of these,
+/// and a struct that belongs to an enum.
 ///
 /// The struct forwards each call to the payloads of all variants of the enum. So code that reads values does not depend
-/// on the payload types.
+/// on the payload types. [`NewPayloads`], [`PayloadsView`] and [`PayloadsDecoder`] are apart, since each asks the
+/// payloads' decoders for one trait only: what a bound asks for, the checker passes with each call.
 ///
 /// ```rust,from:crates/bitcode_own_types/src/two.rt
 /// #[derive(Drop)]
@@ -65,16 +66,23 @@ pub fn read_and_count<'a, D: NewDecoder + View<'a>>(
 ///     all: Decoders<'a>,
 /// }
 ///
-/// impl<'a> VariantPayloads<'a, At<0>, At<2>, Two> for TwoPayloads<'a> {
-///     ghost held = { payloads_in (λ d. d.all)
-///         ⟦<Decoders<'a> as VariantPayloads<'a, At<0>, At<2>, Two>>⟧.held };
+/// impl<'a> HoldsPayloads for TwoPayloads<'a> {
+///     ghost held = { payloads_in (λ d. d.all) ⟦<Decoders<'a> as HoldsPayloads>⟧.held };
+/// }
 ///
+/// impl<'a> NewPayloads for TwoPayloads<'a> {
 ///     fn new(alloc: Global) -> Self {
 ///         TwoPayloads {
-///             all: VariantPayloads::<At<0>, At<2>, Two>::new(alloc),
+///             all: NewPayloads::new(alloc),
 ///         }
 ///     }
+/// }
 ///
+/// impl<'a> PayloadsOf<At<0>, At<2>, Two> for TwoPayloads<'a> {
+///     ghost counted = { record { shapes = refl; lists = λ d. refl } };
+/// }
+///
+/// impl<'a> PayloadsView<'a, At<0>, At<2>, Two> for TwoPayloads<'a> {
 ///     fn read_at(
 ///         &mut self,
 ///         number: usize,
@@ -83,25 +91,45 @@ pub fn read_and_count<'a, D: NewDecoder + View<'a>>(
 ///         strict: bool,
 ///         free: &mut u128,
 ///     ) -> Result<bool, Error> {
-///         VariantPayloads::<At<0>, At<2>, Two>::read_at(&mut self.all, number, input, k, strict, free)
+///         PayloadsView::<At<0>, At<2>, Two>::read_at(&mut self.all, number, input, k, strict, free)
 ///     }
+/// }
+///
+/// impl<'a> PayloadsDecoder<At<0>, At<2>, Two> for TwoPayloads<'a> {
+///     ghost makes_free = { ⟦<Decoders<'a> as PayloadsDecoder<At<0>, At<2>, Two>>⟧.makes_free };
 ///
 ///     fn decode_at(&mut self, number: usize) -> Result<Two, Error> {
-///         VariantPayloads::<At<0>, At<2>, Two>::decode_at(&mut self.all, number)
+///         PayloadsDecoder::<At<0>, At<2>, Two>::decode_at(&mut self.all, number)
 ///     }
 ///
-///     fn sized(&self) {}
+///     ghost same_shapes = { refl };
 /// }
 /// ```
-pub trait VariantPayloads<'a, First: VariantNumber, End: VariantNumber, T: Enum> {
+pub trait HoldsPayloads {
     // the remaining payloads
     ghost held: { HeldPayloads Self };
+}
 
+/// Payloads that are made without an input.
+pub trait NewPayloads: HoldsPayloads {
     /// Creates an empty decoder without allocating.
     fn new(alloc: Global) -> Self
-        ensures empty { held.lists result ≡ map (λ payloads. []) (held.lists result) }
-        ensures owned { held.owned result ≡ 0 };
+        ensures empty { Self.held.lists result ≡ map (λ payloads. []) (Self.held.lists result) }
+        ensures owned { Self.held.owned result ≡ 0 };
+}
 
+/// Payloads of the variants of `T` from the number `First` to the one before `End`.
+pub trait PayloadsOf<First: VariantNumber, End: VariantNumber, T: Enum>: HoldsPayloads {
+    // there is a list of payloads for each of the variants
+    ghost counted: { AreCounted Self.held First.value End.value };
+}
+
+/// Payloads of these variants that are read from an input.
+pub trait PayloadsView<'a, First: VariantNumber, End: VariantNumber, T: Enum>: PayloadsOf<
+    First,
+    End,
+    T,
+> {
     /// Reads `k` payloads of the variant with this number from the front of the input, as `View::read` does, and adds
     /// the number of elements without columns inside them to `free`, up to 2^128 - 1.
     fn read_at(
@@ -113,41 +141,53 @@ pub trait VariantPayloads<'a, First: VariantNumber, End: VariantNumber, T: Enum>
         free: &mut u128,
     ) -> Result<bool, Error>
         requires { (First.value ≤ number) × (number < End.value) }
-        ensures others { KeepsOthers [] (number - First.value) (held.lists self.old)
-            (held.lists self.new) }
+        ensures others { KeepsOthers [] (number - First.value) (Self.held.lists self.old)
+            (Self.held.lists self.new) }
         ensures read { OnOk result
-            (Reads (Spells (shape_at number T.each.variants.shapes)) k input.old.now
-            (payloads_of (number - First.value) (held.lists self.new)) input.new.now) }
+            (Reads (Spells (shape_among (number - First.value) Self.held.shapes)) k input.old.now
+            (payloads_of (number - First.value) (Self.held.lists self.new)) input.new.now) }
         ensures counted { OnOk result
-            (free.new ≡ saturated (free.old + free_count (shape_at number T.each.variants.shapes)
-            (payloads_of (number - First.value) (held.lists self.new)))) }
+            (free.new ≡ saturated (free.old + free_count
+            (shape_among (number - First.value) Self.held.shapes)
+            (payloads_of (number - First.value) (Self.held.lists self.new)))) }
         ensures judged { IsTrue strict → IfOk result
-            (λ written. JudgesData (shape_at number T.each.variants.shapes)
-            (payloads_of (number - First.value) (held.lists self.new)) written input.old.now
+            (λ written. JudgesData (shape_among (number - First.value) Self.held.shapes)
+            (payloads_of (number - First.value) (Self.held.lists self.new)) written input.old.now
             input.new.now) }
         ensures refused { IfErr result
-            (λ e. IsReadingRefusal (shape_at number T.each.variants.shapes) e.reason k
+            (λ e. IsReadingRefusal (shape_among (number - First.value) Self.held.shapes) e.reason k
             input.old.now) }
         ensures exact { IfErr result
-            (λ e. IsFirstFault (shape_at number T.each.variants.shapes) e.reason k input.old.now) }
+            (λ e. IsFirstFault (shape_among (number - First.value) Self.held.shapes) e.reason k
+            input.old.now) }
         ensures rest { OnErr result (IsEndOf input.old.now input.new.now) };
+}
+
+/// Payloads of these variants from which values of `T` are made.
+pub trait PayloadsDecoder<First: VariantNumber, End: VariantNumber, T: Enum>: PayloadsOf<
+    First,
+    End,
+    T,
+> {
+    // making a value takes no memory
+    ghost makes_free: { Bool };
 
     /// Makes a value of the variant with this number from its next payload. At least one must be left.
     ///
     /// The only error is `out of memory`.
     fn decode_at(&mut self, number: usize) -> Result<T, Error>
         requires known { (First.value ≤ number) × (number < End.value) }
-        requires left { 0 < length (payloads_of (number - First.value) (held.lists self.old)) }
-        ensures others { IsOk result → KeepsOthers [] (number - First.value) (held.lists self.old)
-            (held.lists self.new) }
+        requires left { 0 < length (payloads_of (number - First.value) (Self.held.lists self.old)) }
+        ensures others { IsOk result → KeepsOthers [] (number - First.value)
+            (Self.held.lists self.old) (Self.held.lists self.new) }
         ensures number { IfOk result (λ t. T.each.variants.index t ≡ number) }
         ensures made { IfOk result
-            (λ t. T.each.variants.takes t (payloads_of (number - First.value) (held.lists self.old))
-            (payloads_of (number - First.value) (held.lists self.new))) }
+            (λ t. T.each.variants.takes t
+            (payloads_of (number - First.value) (Self.held.lists self.old))
+            (payloads_of (number - First.value) (Self.held.lists self.new))) }
         ensures refused { IfErr result (λ e. e.reason ≡ Reason.OutOfMemory) }
-        ensures free { IsTrue held.makes_free → IsOk result };
+        ensures free { IsTrue makes_free → IsOk result };
 
-    /// There is a list of payloads for each of the variants. It does nothing; its contract is for proofs.
-    fn sized(&self)
-        ensures { First.value + length (held.lists self.now) ≡ End.value };
+    // the payloads have the shapes of these variants
+    ghost same_shapes: { AreShapesOf T.each.variants.shapes First.value Self.held.shapes };
 }

@@ -1,11 +1,12 @@
 //! The coders of consecutive variants, as two groups.
 ghost use Rattle.std.specs.Prelude.{◌+◌, ◌++◌, ◌&&◌};
-ghost use Rattle.bitcode_enums.specs.ByNumberLaws.{both_groups};
+ghost use Rattle.bitcode_enums.specs.ByNumberLaws.{both_groups, counted_beside, shapes_beside};
+ghost use Rattle.bitcode_enums.specs.HeldColumns.{payloads_beside};
 
-use crate::columns::VariantColumns;
+use crate::columns::{HoldsVariantColumns, VariantColumns};
 use crate::enums::Enum;
 use crate::number::VariantNumber;
-use crate::payloads::VariantPayloads;
+use crate::payloads::{HoldsPayloads, NewPayloads, PayloadsDecoder, PayloadsOf, PayloadsView};
 use crate::writes::WritesVariants;
 use bitcode_memory::error::Error;
 use std::alloc::Global;
@@ -23,13 +24,16 @@ pub struct TwoGroups<Second, F, S> {
     of: PhantomData<Second>,
 }
 
-impl<Second: VariantNumber, F: VariantColumns, S: VariantColumns> VariantColumns
+impl<Second: VariantNumber, F: HoldsVariantColumns, S: HoldsVariantColumns> HoldsVariantColumns
     for TwoGroups<Second, F, S> {
     ghost columns = { record {
       lists = λ e. F.columns.lists e.first ++ S.columns.lists e.second;
       capacity = λ e. F.columns.capacity e.first + S.columns.capacity e.second;
     } };
+}
 
+impl<Second: VariantNumber, F: VariantColumns, S: VariantColumns> VariantColumns
+    for TwoGroups<Second, F, S> {
     fn new(alloc: Global) -> Self {
         TwoGroups {
             first: F::new(alloc),
@@ -53,8 +57,8 @@ impl<
     First: VariantNumber,
     Second: VariantNumber,
     End: VariantNumber,
-    F: VariantColumns,
-    S: VariantColumns,
+    F: HoldsVariantColumns,
+    S: HoldsVariantColumns,
     T: WritesVariants<First, Second, F> + WritesVariants<Second, End, S>,
 > WritesVariants<First, End, TwoGroups<Second, F, S>> for T {
     fn write(&self, to: &mut TwoGroups<Second, F, S>) -> Result<(), Error> {
@@ -71,21 +75,13 @@ impl<
         (T.WritesVariants-2.are_columns c.second) };
 }
 
-impl<
-    'a,
-    First: VariantNumber,
-    Second: VariantNumber,
-    End: VariantNumber,
-    T: Enum,
-    F: VariantPayloads<'a, First, Second, T>,
-    S: VariantPayloads<'a, Second, End, T>,
-> VariantPayloads<'a, First, End, T> for TwoGroups<Second, F, S> {
-    ghost held = { record {
-      lists = λ d. F.held.lists d.first ++ S.held.lists d.second;
-      owned = λ d. F.held.owned d.first + S.held.owned d.second;
-      makes_free = F.held.makes_free && S.held.makes_free;
-    } };
+impl<Second: VariantNumber, F: HoldsPayloads, S: HoldsPayloads> HoldsPayloads
+    for TwoGroups<Second, F, S> {
+    ghost held = { payloads_beside (λ d. d.first) (λ d. d.second) F.held S.held };
+}
 
+impl<Second: VariantNumber, F: NewPayloads, S: NewPayloads> NewPayloads
+    for TwoGroups<Second, F, S> {
     fn new(alloc: Global) -> Self {
         TwoGroups {
             first: F::new(alloc),
@@ -93,7 +89,28 @@ impl<
             of: PhantomData,
         }
     }
+}
 
+impl<
+    First: VariantNumber,
+    Second: VariantNumber,
+    End: VariantNumber,
+    T: Enum,
+    F: PayloadsOf<First, Second, T>,
+    S: PayloadsOf<Second, End, T>,
+> PayloadsOf<First, End, T> for TwoGroups<Second, F, S> {
+    ghost counted = { counted_beside (λ d. d.first) (λ d. d.second) F.counted S.counted };
+}
+
+impl<
+    'a,
+    First: VariantNumber,
+    Second: VariantNumber,
+    End: VariantNumber,
+    T: Enum,
+    F: PayloadsView<'a, First, Second, T>,
+    S: PayloadsView<'a, Second, End, T>,
+> PayloadsView<'a, First, End, T> for TwoGroups<Second, F, S> {
     fn read_at(
         &mut self,
         number: usize,
@@ -102,27 +119,32 @@ impl<
         strict: bool,
         free: &mut u128,
     ) -> Result<bool, Error> {
-        self.first.sized();
-        self.second.sized();
         if number < Second::value() {
             self.first.read_at(number, input, k, strict, free)
         } else {
             self.second.read_at(number, input, k, strict, free)
         }
     }
+}
+
+impl<
+    First: VariantNumber,
+    Second: VariantNumber,
+    End: VariantNumber,
+    T: Enum,
+    F: PayloadsDecoder<First, Second, T>,
+    S: PayloadsDecoder<Second, End, T>,
+> PayloadsDecoder<First, End, T> for TwoGroups<Second, F, S> {
+    ghost makes_free = { F.makes_free && S.makes_free };
+
+    ghost same_shapes = { shapes_beside T.each.variants.shapes First.value Second.value
+        F.held.shapes S.held.shapes F.counted.shapes F.same_shapes S.same_shapes };
 
     fn decode_at(&mut self, number: usize) -> Result<T, Error> {
-        self.first.sized();
-        self.second.sized();
         if number < Second::value() {
             self.first.decode_at(number)
         } else {
             self.second.decode_at(number)
         }
-    }
-
-    fn sized(&self) {
-        self.first.sized();
-        self.second.sized();
     }
 }

@@ -4,7 +4,7 @@ ghost use Rattle.bitcode_coder.specs.Columns.{no_columns, emptied};
 ghost use Rattle.bitcode_coder.specs.Coder.{IsWritingRefusal, JoinsListing, OverflowsWithListing};
 ghost use Rattle.bitcode_enums.specs.ByNumber.{columns_at, AreColumnsOf, KeepsOthers};
 
-use crate::columns::VariantColumns;
+use crate::columns::HoldsVariantColumns;
 use crate::enums::Enum;
 use crate::number::VariantNumber;
 use bitcode_coder::coder::{Buffer, Encoder};
@@ -36,7 +36,7 @@ use bitcode_tuples::fields::{Fields, FieldsEncoder};
 ///     ghost are_columns = { λ c. (refl, refl) };
 /// }
 /// ```
-pub trait WritesVariants<First: VariantNumber, End: VariantNumber, C: VariantColumns>: Enum {
+pub trait WritesVariants<First: VariantNumber, End: VariantNumber, C: HoldsVariantColumns>: Enum {
     /// Reserves room for the payload of a value of these variants, and adds the payload to the columns of its variant.
     ///
     /// If an allocation fails, the error is `out of memory`. The error `length overflow` means that a number of arrays

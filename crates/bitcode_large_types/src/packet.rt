@@ -5,8 +5,9 @@ ghost use Rattle.bitcode.specs.ByHand.{payload_and, payloads_in, refl};
 ghost use Rattle.bitcode_large_types.specs.declared.packet.Packet.{Packet};
 
 use bitcode::own::{
-    At, DecodersOf4, EncodersOf4, Enum, EnumDecoder, EnumEncoder, EnumOf, NotCompared, OneOf4,
-    TwoGroups, VariantColumns, VariantPayloads, Variants4, WritesVariants, told_as,
+    At, DecodersOf4, EncodersOf4, Enum, EnumDecoder, EnumEncoder, EnumOf, HoldsPayloads,
+    HoldsVariantColumns, NewPayloads, NotCompared, OneOf4, PayloadsDecoder, PayloadsOf,
+    PayloadsView, TwoGroups, VariantColumns, Variants4, WritesVariants, told_as,
 };
 use bitcode::{DecodeOwned, Error, HasDecoder, HasEncoder, Shaped};
 use std::alloc::Global;
@@ -448,9 +449,11 @@ pub struct PacketColumns {
     all: Columns,
 }
 
-impl VariantColumns for PacketColumns {
-    ghost columns = { columns_in (λ c. c.all) ⟦<Columns as VariantColumns>⟧.columns };
+impl HoldsVariantColumns for PacketColumns {
+    ghost columns = { columns_in (λ c. c.all) ⟦<Columns as HoldsVariantColumns>⟧.columns };
+}
 
+impl VariantColumns for PacketColumns {
     fn new(alloc: Global) -> Self {
         PacketColumns {
             all: VariantColumns::new(alloc),
@@ -482,16 +485,23 @@ pub struct PacketPayloads0To3<'a> {
     all: Decoders0To3<'a>,
 }
 
-impl<'a> VariantPayloads<'a, At<0>, At<4>, Packet> for PacketPayloads0To3<'a> {
-    ghost held = { payloads_in (λ d. d.all)
-        ⟦<Decoders0To3<'a> as VariantPayloads<'a, At<0>, At<4>, Packet>>⟧.held };
+impl<'a> HoldsPayloads for PacketPayloads0To3<'a> {
+    ghost held = { payloads_in (λ d. d.all) ⟦<Decoders0To3<'a> as HoldsPayloads>⟧.held };
+}
 
+impl<'a> NewPayloads for PacketPayloads0To3<'a> {
     fn new(alloc: Global) -> Self {
         PacketPayloads0To3 {
-            all: VariantPayloads::<At<0>, At<4>, Packet>::new(alloc),
+            all: NewPayloads::new(alloc),
         }
     }
+}
 
+impl<'a> PayloadsOf<At<0>, At<4>, Packet> for PacketPayloads0To3<'a> {
+    ghost counted = { record { shapes = refl; lists = λ d. refl } };
+}
+
+impl<'a> PayloadsView<'a, At<0>, At<4>, Packet> for PacketPayloads0To3<'a> {
     fn read_at(
         &mut self,
         number: usize,
@@ -500,21 +510,18 @@ impl<'a> VariantPayloads<'a, At<0>, At<4>, Packet> for PacketPayloads0To3<'a> {
         strict: bool,
         free: &mut u128,
     ) -> Result<bool, Error> {
-        VariantPayloads::<At<0>, At<4>, Packet>::read_at(
-            &mut self.all,
-            number,
-            input,
-            k,
-            strict,
-            free,
-        )
+        PayloadsView::<At<0>, At<4>, Packet>::read_at(&mut self.all, number, input, k, strict, free)
     }
+}
+
+impl<'a> PayloadsDecoder<At<0>, At<4>, Packet> for PacketPayloads0To3<'a> {
+    ghost makes_free = { ⟦<Decoders0To3<'a> as PayloadsDecoder<At<0>, At<4>, Packet>>⟧.makes_free };
 
     fn decode_at(&mut self, number: usize) -> Result<Packet, Error> {
-        VariantPayloads::<At<0>, At<4>, Packet>::decode_at(&mut self.all, number)
+        PayloadsDecoder::<At<0>, At<4>, Packet>::decode_at(&mut self.all, number)
     }
 
-    fn sized(&self) {}
+    ghost same_shapes = { refl };
 }
 
 type Decoders4To7<'a> = NotCompared<DecodersOf4<'a, At<4>, (u32, String), String, u16, u16>>;
@@ -525,16 +532,23 @@ pub struct PacketPayloads4To7<'a> {
     all: Decoders4To7<'a>,
 }
 
-impl<'a> VariantPayloads<'a, At<4>, At<8>, Packet> for PacketPayloads4To7<'a> {
-    ghost held = { payloads_in (λ d. d.all)
-        ⟦<Decoders4To7<'a> as VariantPayloads<'a, At<4>, At<8>, Packet>>⟧.held };
+impl<'a> HoldsPayloads for PacketPayloads4To7<'a> {
+    ghost held = { payloads_in (λ d. d.all) ⟦<Decoders4To7<'a> as HoldsPayloads>⟧.held };
+}
 
+impl<'a> NewPayloads for PacketPayloads4To7<'a> {
     fn new(alloc: Global) -> Self {
         PacketPayloads4To7 {
-            all: VariantPayloads::<At<4>, At<8>, Packet>::new(alloc),
+            all: NewPayloads::new(alloc),
         }
     }
+}
 
+impl<'a> PayloadsOf<At<4>, At<8>, Packet> for PacketPayloads4To7<'a> {
+    ghost counted = { record { shapes = refl; lists = λ d. refl } };
+}
+
+impl<'a> PayloadsView<'a, At<4>, At<8>, Packet> for PacketPayloads4To7<'a> {
     fn read_at(
         &mut self,
         number: usize,
@@ -543,21 +557,18 @@ impl<'a> VariantPayloads<'a, At<4>, At<8>, Packet> for PacketPayloads4To7<'a> {
         strict: bool,
         free: &mut u128,
     ) -> Result<bool, Error> {
-        VariantPayloads::<At<4>, At<8>, Packet>::read_at(
-            &mut self.all,
-            number,
-            input,
-            k,
-            strict,
-            free,
-        )
+        PayloadsView::<At<4>, At<8>, Packet>::read_at(&mut self.all, number, input, k, strict, free)
     }
+}
+
+impl<'a> PayloadsDecoder<At<4>, At<8>, Packet> for PacketPayloads4To7<'a> {
+    ghost makes_free = { ⟦<Decoders4To7<'a> as PayloadsDecoder<At<4>, At<8>, Packet>>⟧.makes_free };
 
     fn decode_at(&mut self, number: usize) -> Result<Packet, Error> {
-        VariantPayloads::<At<4>, At<8>, Packet>::decode_at(&mut self.all, number)
+        PayloadsDecoder::<At<4>, At<8>, Packet>::decode_at(&mut self.all, number)
     }
 
-    fn sized(&self) {}
+    ghost same_shapes = { refl };
 }
 
 type Decoders8To11<'a> = NotCompared<
@@ -570,16 +581,23 @@ pub struct PacketPayloads8To11<'a> {
     all: Decoders8To11<'a>,
 }
 
-impl<'a> VariantPayloads<'a, At<8>, At<12>, Packet> for PacketPayloads8To11<'a> {
-    ghost held = { payloads_in (λ d. d.all)
-        ⟦<Decoders8To11<'a> as VariantPayloads<'a, At<8>, At<12>, Packet>>⟧.held };
+impl<'a> HoldsPayloads for PacketPayloads8To11<'a> {
+    ghost held = { payloads_in (λ d. d.all) ⟦<Decoders8To11<'a> as HoldsPayloads>⟧.held };
+}
 
+impl<'a> NewPayloads for PacketPayloads8To11<'a> {
     fn new(alloc: Global) -> Self {
         PacketPayloads8To11 {
-            all: VariantPayloads::<At<8>, At<12>, Packet>::new(alloc),
+            all: NewPayloads::new(alloc),
         }
     }
+}
 
+impl<'a> PayloadsOf<At<8>, At<12>, Packet> for PacketPayloads8To11<'a> {
+    ghost counted = { record { shapes = refl; lists = λ d. refl } };
+}
+
+impl<'a> PayloadsView<'a, At<8>, At<12>, Packet> for PacketPayloads8To11<'a> {
     fn read_at(
         &mut self,
         number: usize,
@@ -588,7 +606,7 @@ impl<'a> VariantPayloads<'a, At<8>, At<12>, Packet> for PacketPayloads8To11<'a> 
         strict: bool,
         free: &mut u128,
     ) -> Result<bool, Error> {
-        VariantPayloads::<At<8>, At<12>, Packet>::read_at(
+        PayloadsView::<At<8>, At<12>, Packet>::read_at(
             &mut self.all,
             number,
             input,
@@ -597,12 +615,16 @@ impl<'a> VariantPayloads<'a, At<8>, At<12>, Packet> for PacketPayloads8To11<'a> 
             free,
         )
     }
+}
+
+impl<'a> PayloadsDecoder<At<8>, At<12>, Packet> for PacketPayloads8To11<'a> {
+    ghost makes_free = { ⟦<Decoders8To11<'a> as PayloadsDecoder<At<8>, At<12>, Packet>>⟧.makes_free };
 
     fn decode_at(&mut self, number: usize) -> Result<Packet, Error> {
-        VariantPayloads::<At<8>, At<12>, Packet>::decode_at(&mut self.all, number)
+        PayloadsDecoder::<At<8>, At<12>, Packet>::decode_at(&mut self.all, number)
     }
 
-    fn sized(&self) {}
+    ghost same_shapes = { refl };
 }
 
 type Decoders12To15<'a> = NotCompared<DecodersOf4<'a, At<12>, u32, (u32, u16), u16, (u64, u16)>>;
@@ -613,16 +635,23 @@ pub struct PacketPayloads12To15<'a> {
     all: Decoders12To15<'a>,
 }
 
-impl<'a> VariantPayloads<'a, At<12>, At<16>, Packet> for PacketPayloads12To15<'a> {
-    ghost held = { payloads_in (λ d. d.all)
-        ⟦<Decoders12To15<'a> as VariantPayloads<'a, At<12>, At<16>, Packet>>⟧.held };
+impl<'a> HoldsPayloads for PacketPayloads12To15<'a> {
+    ghost held = { payloads_in (λ d. d.all) ⟦<Decoders12To15<'a> as HoldsPayloads>⟧.held };
+}
 
+impl<'a> NewPayloads for PacketPayloads12To15<'a> {
     fn new(alloc: Global) -> Self {
         PacketPayloads12To15 {
-            all: VariantPayloads::<At<12>, At<16>, Packet>::new(alloc),
+            all: NewPayloads::new(alloc),
         }
     }
+}
 
+impl<'a> PayloadsOf<At<12>, At<16>, Packet> for PacketPayloads12To15<'a> {
+    ghost counted = { record { shapes = refl; lists = λ d. refl } };
+}
+
+impl<'a> PayloadsView<'a, At<12>, At<16>, Packet> for PacketPayloads12To15<'a> {
     fn read_at(
         &mut self,
         number: usize,
@@ -631,7 +660,7 @@ impl<'a> VariantPayloads<'a, At<12>, At<16>, Packet> for PacketPayloads12To15<'a
         strict: bool,
         free: &mut u128,
     ) -> Result<bool, Error> {
-        VariantPayloads::<At<12>, At<16>, Packet>::read_at(
+        PayloadsView::<At<12>, At<16>, Packet>::read_at(
             &mut self.all,
             number,
             input,
@@ -640,12 +669,16 @@ impl<'a> VariantPayloads<'a, At<12>, At<16>, Packet> for PacketPayloads12To15<'a
             free,
         )
     }
+}
+
+impl<'a> PayloadsDecoder<At<12>, At<16>, Packet> for PacketPayloads12To15<'a> {
+    ghost makes_free = { ⟦<Decoders12To15<'a> as PayloadsDecoder<At<12>, At<16>, Packet>>⟧.makes_free };
 
     fn decode_at(&mut self, number: usize) -> Result<Packet, Error> {
-        VariantPayloads::<At<12>, At<16>, Packet>::decode_at(&mut self.all, number)
+        PayloadsDecoder::<At<12>, At<16>, Packet>::decode_at(&mut self.all, number)
     }
 
-    fn sized(&self) {}
+    ghost same_shapes = { refl };
 }
 
 type Decoders16To19<'a> = NotCompared<DecodersOf4<'a, At<16>, u64, Vec<u16>, Option<u32>, ()>>;
@@ -656,16 +689,23 @@ pub struct PacketPayloads16To19<'a> {
     all: Decoders16To19<'a>,
 }
 
-impl<'a> VariantPayloads<'a, At<16>, At<20>, Packet> for PacketPayloads16To19<'a> {
-    ghost held = { payloads_in (λ d. d.all)
-        ⟦<Decoders16To19<'a> as VariantPayloads<'a, At<16>, At<20>, Packet>>⟧.held };
+impl<'a> HoldsPayloads for PacketPayloads16To19<'a> {
+    ghost held = { payloads_in (λ d. d.all) ⟦<Decoders16To19<'a> as HoldsPayloads>⟧.held };
+}
 
+impl<'a> NewPayloads for PacketPayloads16To19<'a> {
     fn new(alloc: Global) -> Self {
         PacketPayloads16To19 {
-            all: VariantPayloads::<At<16>, At<20>, Packet>::new(alloc),
+            all: NewPayloads::new(alloc),
         }
     }
+}
 
+impl<'a> PayloadsOf<At<16>, At<20>, Packet> for PacketPayloads16To19<'a> {
+    ghost counted = { record { shapes = refl; lists = λ d. refl } };
+}
+
+impl<'a> PayloadsView<'a, At<16>, At<20>, Packet> for PacketPayloads16To19<'a> {
     fn read_at(
         &mut self,
         number: usize,
@@ -674,7 +714,7 @@ impl<'a> VariantPayloads<'a, At<16>, At<20>, Packet> for PacketPayloads16To19<'a
         strict: bool,
         free: &mut u128,
     ) -> Result<bool, Error> {
-        VariantPayloads::<At<16>, At<20>, Packet>::read_at(
+        PayloadsView::<At<16>, At<20>, Packet>::read_at(
             &mut self.all,
             number,
             input,
@@ -683,12 +723,16 @@ impl<'a> VariantPayloads<'a, At<16>, At<20>, Packet> for PacketPayloads16To19<'a
             free,
         )
     }
+}
+
+impl<'a> PayloadsDecoder<At<16>, At<20>, Packet> for PacketPayloads16To19<'a> {
+    ghost makes_free = { ⟦<Decoders16To19<'a> as PayloadsDecoder<At<16>, At<20>, Packet>>⟧.makes_free };
 
     fn decode_at(&mut self, number: usize) -> Result<Packet, Error> {
-        VariantPayloads::<At<16>, At<20>, Packet>::decode_at(&mut self.all, number)
+        PayloadsDecoder::<At<16>, At<20>, Packet>::decode_at(&mut self.all, number)
     }
 
-    fn sized(&self) {}
+    ghost same_shapes = { refl };
 }
 
 impl HasEncoder for Packet {

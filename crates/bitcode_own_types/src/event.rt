@@ -5,8 +5,9 @@ ghost use Rattle.bitcode.specs.ByHand.{payload_and, payloads_in, refl};
 ghost use Rattle.bitcode_own_types.specs.declared.event.Event.{Event};
 
 use bitcode::own::{
-    At, DecodersOf4, EncodersOf4, Enum, EnumDecoder, EnumEncoder, EnumOf, OneOf4, VariantColumns,
-    VariantPayloads, Variants4, WritesVariants, told_as,
+    At, DecodersOf4, EncodersOf4, Enum, EnumDecoder, EnumEncoder, EnumOf, HoldsPayloads,
+    HoldsVariantColumns, NewPayloads, OneOf4, PayloadsDecoder, PayloadsOf, PayloadsView,
+    VariantColumns, Variants4, WritesVariants, told_as,
 };
 use bitcode::{DecodeOwned, Error, HasDecoder, HasEncoder, Shaped};
 use std::alloc::Global;
@@ -123,9 +124,11 @@ pub struct EventColumns {
     all: Columns,
 }
 
-impl VariantColumns for EventColumns {
-    ghost columns = { columns_in (λ c. c.all) ⟦<Columns as VariantColumns>⟧.columns };
+impl HoldsVariantColumns for EventColumns {
+    ghost columns = { columns_in (λ c. c.all) ⟦<Columns as HoldsVariantColumns>⟧.columns };
+}
 
+impl VariantColumns for EventColumns {
     fn new(alloc: Global) -> Self {
         EventColumns {
             all: VariantColumns::new(alloc),
@@ -155,16 +158,23 @@ pub struct EventPayloads<'a> {
     all: Decoders<'a>,
 }
 
-impl<'a> VariantPayloads<'a, At<0>, At<4>, Event> for EventPayloads<'a> {
-    ghost held = { payloads_in (λ d. d.all)
-        ⟦<Decoders<'a> as VariantPayloads<'a, At<0>, At<4>, Event>>⟧.held };
+impl<'a> HoldsPayloads for EventPayloads<'a> {
+    ghost held = { payloads_in (λ d. d.all) ⟦<Decoders<'a> as HoldsPayloads>⟧.held };
+}
 
+impl<'a> NewPayloads for EventPayloads<'a> {
     fn new(alloc: Global) -> Self {
         EventPayloads {
-            all: VariantPayloads::<At<0>, At<4>, Event>::new(alloc),
+            all: NewPayloads::new(alloc),
         }
     }
+}
 
+impl<'a> PayloadsOf<At<0>, At<4>, Event> for EventPayloads<'a> {
+    ghost counted = { record { shapes = refl; lists = λ d. refl } };
+}
+
+impl<'a> PayloadsView<'a, At<0>, At<4>, Event> for EventPayloads<'a> {
     fn read_at(
         &mut self,
         number: usize,
@@ -173,21 +183,18 @@ impl<'a> VariantPayloads<'a, At<0>, At<4>, Event> for EventPayloads<'a> {
         strict: bool,
         free: &mut u128,
     ) -> Result<bool, Error> {
-        VariantPayloads::<At<0>, At<4>, Event>::read_at(
-            &mut self.all,
-            number,
-            input,
-            k,
-            strict,
-            free,
-        )
+        PayloadsView::<At<0>, At<4>, Event>::read_at(&mut self.all, number, input, k, strict, free)
     }
+}
+
+impl<'a> PayloadsDecoder<At<0>, At<4>, Event> for EventPayloads<'a> {
+    ghost makes_free = { ⟦<Decoders<'a> as PayloadsDecoder<At<0>, At<4>, Event>>⟧.makes_free };
 
     fn decode_at(&mut self, number: usize) -> Result<Event, Error> {
-        VariantPayloads::<At<0>, At<4>, Event>::decode_at(&mut self.all, number)
+        PayloadsDecoder::<At<0>, At<4>, Event>::decode_at(&mut self.all, number)
     }
 
-    fn sized(&self) {}
+    ghost same_shapes = { refl };
 }
 
 impl HasEncoder for Event {

@@ -1,14 +1,15 @@
 //! `Msg` is a generic enum, with the items that `scripts/new_type` writes for an enum without type parameters. Its
 //! columns and payloads have the coders as type parameters.
-ghost use Rattle.std.specs.Prelude.{◌≡◌};
+ghost use Rattle.std.specs.Prelude.{◌≡◌, ◌&&◌};
 ghost use Rattle.bitcode.specs.ByHand.{columns_and, columns_in, each_variant, enum_data, is_variant, last_payload};
-ghost use Rattle.bitcode.specs.ByHand.{of_one_of_3, payload_and, payloads_in, refl};
+ghost use Rattle.bitcode.specs.ByHand.{of_one_of_3, payload_and, payloads_in, refl, shapes_and};
 ghost use Rattle.bitcode_own_types.specs.declared.msg.Msg.{Msg};
 
-use bitcode::coder::{Buffer, Decoder, Encoder, NewDecoder, View};
+use bitcode::coder::{Buffer, Decoder, Encoder, HoldsColumns, HoldsData, NewDecoder, View};
 use bitcode::own::{
-    At, Decoders3, Encoders3, Enum, EnumDecoder, EnumEncoder, EnumOf, OneOf3, VariantColumns,
-    VariantPayloads, Variants3, WritesVariants, told_as,
+    At, Decoders3, Encoders3, Enum, EnumDecoder, EnumEncoder, EnumOf, HoldsPayloads,
+    HoldsVariantColumns, NewPayloads, OneOf3, PayloadsDecoder, PayloadsOf, PayloadsView,
+    VariantColumns, Variants3, WritesVariants, told_as,
 };
 use bitcode::{DecodeOwned, Error, HasDecoder, HasEncoder, Shaped};
 use std::alloc::Global;
@@ -22,8 +23,7 @@ pub enum Msg<T> {
 }
 
 impl<T: Shaped> Enum for Msg<T> {
-    ghost each = { each_variant
-        (payload_and T.data
+    ghost each = { each_variant (payload_and T.data
         (payload_and ⟦<Vec<T> as Shaped>⟧.data (last_payload ⟦<() as Shaped>⟧.data))) refl
         (λ at. elim [ Msg.One a ↦ at 0 a | Msg.Many a ↦ at 1 a | Msg.Nothing ↦ at 2 tt ])
         ((λ p. (Msg.One p, refl)), ((λ p. (Msg.Many p, refl)), λ p. (Msg.Nothing, refl)))
@@ -103,10 +103,13 @@ pub struct MsgColumns<E1, E2, E3> {
     all: Encoders3<At<0>, E1, E2, E3>,
 }
 
-impl<E1: Buffer, E2: Buffer, E3: Buffer> VariantColumns for MsgColumns<E1, E2, E3> {
+impl<E1: HoldsColumns, E2: HoldsColumns, E3: HoldsColumns> HoldsVariantColumns
+    for MsgColumns<E1, E2, E3> {
     ghost columns = { columns_in (λ c. c.all)
-        ⟦<Encoders3<At<0>, E1, E2, E3> as VariantColumns>⟧.columns };
+        ⟦<Encoders3<At<0>, E1, E2, E3> as HoldsVariantColumns>⟧.columns };
+}
 
+impl<E1: Buffer, E2: Buffer, E3: Buffer> VariantColumns for MsgColumns<E1, E2, E3> {
     fn new(alloc: Global) -> Self {
         MsgColumns {
             all: VariantColumns::new(alloc),
@@ -141,26 +144,37 @@ impl<
 
 /// The payloads that values of `Msg` are made of, by their decoders.
 #[derive(Drop)]
-pub struct MsgPayloads<T, D1, D2, D3> {
-    all: Decoders3<At<0>, (T, Vec<T>, ()), D1, D2, D3>,
+pub struct MsgPayloads<V1, D1, D2, D3> {
+    all: Decoders3<At<0>, V1, D1, D2, D3>,
+}
+
+impl<V1, D1: HoldsData, D2: HoldsData, D3: HoldsData> HoldsPayloads
+    for MsgPayloads<V1, D1, D2, D3> {
+    ghost held = { payloads_in (λ d. d.all)
+        ⟦<Decoders3<At<0>, V1, D1, D2, D3> as HoldsPayloads>⟧.held };
+}
+
+impl<V1, D1: NewDecoder, D2: NewDecoder, D3: NewDecoder> NewPayloads
+    for MsgPayloads<V1, D1, D2, D3> {
+    fn new(alloc: Global) -> Self {
+        MsgPayloads {
+            all: NewPayloads::new(alloc),
+        }
+    }
+}
+
+impl<T: Shaped, D1: HoldsData, D2: HoldsData, D3: HoldsData> PayloadsOf<At<0>, At<3>, Msg<T>>
+    for MsgPayloads<(T, Vec<T>, ()), D1, D2, D3> {
+    ghost counted = { record { shapes = refl; lists = λ d. refl } };
 }
 
 impl<
     'a,
     T: Shaped,
-    D1: NewDecoder + View<'a> + Decoder<T>,
-    D2: NewDecoder + View<'a> + Decoder<Vec<T>>,
-    D3: NewDecoder + View<'a> + Decoder<()>,
-> VariantPayloads<'a, At<0>, At<3>, Msg<T>> for MsgPayloads<T, D1, D2, D3> {
-    ghost held = { payloads_in (λ d. d.all)
-        ⟦<Decoders3<At<0>, (T, Vec<T>, ()), D1, D2, D3> as VariantPayloads<'a, At<0>, At<3>, Msg<T>>>⟧.held };
-
-    fn new(alloc: Global) -> Self {
-        MsgPayloads {
-            all: VariantPayloads::<At<0>, At<3>, Msg<T>>::new(alloc),
-        }
-    }
-
+    D1: NewDecoder + View<'a>,
+    D2: NewDecoder + View<'a>,
+    D3: NewDecoder + View<'a>,
+> PayloadsView<'a, At<0>, At<3>, Msg<T>> for MsgPayloads<(T, Vec<T>, ()), D1, D2, D3> {
     fn read_at(
         &mut self,
         number: usize,
@@ -169,42 +183,44 @@ impl<
         strict: bool,
         free: &mut u128,
     ) -> Result<bool, Error> {
-        VariantPayloads::<At<0>, At<3>, Msg<T>>::read_at(
-            &mut self.all,
-            number,
-            input,
-            k,
-            strict,
-            free,
-        )
+        PayloadsView::<At<0>, At<3>, Msg<T>>::read_at(&mut self.all, number, input, k, strict, free)
     }
-
-    fn decode_at(&mut self, number: usize) -> Result<Msg<T>, Error> {
-        VariantPayloads::<At<0>, At<3>, Msg<T>>::decode_at(&mut self.all, number)
-    }
-
-    fn sized(&self) {}
 }
 
-type ColumnsOf<T> = MsgColumns<
+impl<T: Shaped, D1: Decoder<T>, D2: Decoder<Vec<T>>, D3: Decoder<()>> PayloadsDecoder<
+    At<0>,
+    At<3>,
+    Msg<T>,
+> for MsgPayloads<(T, Vec<T>, ()), D1, D2, D3> {
+    ghost makes_free = { D1.makes_free && D2.makes_free && D3.makes_free };
+
+    fn decode_at(&mut self, number: usize) -> Result<Msg<T>, Error> {
+        PayloadsDecoder::<At<0>, At<3>, Msg<T>>::decode_at(&mut self.all, number)
+    }
+
+    ghost same_shapes = { shapes_and D1.same_shape
+        (shapes_and D2.same_shape (shapes_and D3.same_shape refl)) };
+}
+
+type Columns<T> = MsgColumns<
     <T as HasEncoder>::Encoder,
     <Vec<T> as HasEncoder>::Encoder,
     <() as HasEncoder>::Encoder,
 >;
 
-type PayloadsOf<'a, T> = MsgPayloads<
-    T,
+type Decoders<'a, T> = MsgPayloads<
+    (T, Vec<T>, ()),
     <T as HasDecoder<'a>>::Decoder,
     <Vec<T> as HasDecoder<'a>>::Decoder,
     <() as HasDecoder<'a>>::Decoder,
 >;
 
 impl<T: HasEncoder> HasEncoder for Msg<T> {
-    type Encoder = EnumEncoder<3, ColumnsOf<T>>;
+    type Encoder = EnumEncoder<3, Columns<T>>;
 }
 
 impl<'a, T: HasDecoder<'a>> HasDecoder<'a> for Msg<T> {
-    type Decoder = EnumDecoder<'a, 3, Msg<T>, PayloadsOf<'a, T>>;
+    type Decoder = EnumDecoder<'a, 3, Msg<T>, Decoders<'a, T>>;
 }
 
 impl<T: DecodeOwned> DecodeOwned for Msg<T> {}

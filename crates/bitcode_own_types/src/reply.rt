@@ -6,8 +6,9 @@ ghost use Rattle.bitcode_own_types.specs.declared.reply.Reply.{Reply};
 
 use crate::message::Message;
 use bitcode::own::{
-    At, DecodersOf4, EncodersOf4, Enum, EnumDecoder, EnumEncoder, EnumOf, OneOf4, TwoGroups,
-    VariantColumns, VariantPayloads, Variants4, WritesVariants, told_as,
+    At, DecodersOf4, EncodersOf4, Enum, EnumDecoder, EnumEncoder, EnumOf, HoldsPayloads,
+    HoldsVariantColumns, NewPayloads, OneOf4, PayloadsDecoder, PayloadsOf, PayloadsView, TwoGroups,
+    VariantColumns, Variants4, WritesVariants, told_as,
 };
 use bitcode::{Error, HasDecoder, HasEncoder, Shaped};
 use std::alloc::Global;
@@ -233,9 +234,11 @@ pub struct ReplyColumns {
     all: Columns,
 }
 
-impl VariantColumns for ReplyColumns {
-    ghost columns = { columns_in (λ c. c.all) ⟦<Columns as VariantColumns>⟧.columns };
+impl HoldsVariantColumns for ReplyColumns {
+    ghost columns = { columns_in (λ c. c.all) ⟦<Columns as HoldsVariantColumns>⟧.columns };
+}
 
+impl VariantColumns for ReplyColumns {
     fn new(alloc: Global) -> Self {
         ReplyColumns {
             all: VariantColumns::new(alloc),
@@ -265,16 +268,23 @@ pub struct ReplyPayloads<'a> {
     all: Decoders<'a>,
 }
 
-impl<'a> VariantPayloads<'a, At<0>, At<8>, Reply<'a>> for ReplyPayloads<'a> {
-    ghost held = { payloads_in (λ d. d.all)
-        ⟦<Decoders<'a> as VariantPayloads<'a, At<0>, At<8>, Reply<'a>>>⟧.held };
+impl<'a> HoldsPayloads for ReplyPayloads<'a> {
+    ghost held = { payloads_in (λ d. d.all) ⟦<Decoders<'a> as HoldsPayloads>⟧.held };
+}
 
+impl<'a> NewPayloads for ReplyPayloads<'a> {
     fn new(alloc: Global) -> Self {
         ReplyPayloads {
-            all: VariantPayloads::<At<0>, At<8>, Reply<'a>>::new(alloc),
+            all: NewPayloads::new(alloc),
         }
     }
+}
 
+impl<'a> PayloadsOf<At<0>, At<8>, Reply<'a>> for ReplyPayloads<'a> {
+    ghost counted = { record { shapes = refl; lists = λ d. refl } };
+}
+
+impl<'a> PayloadsView<'a, At<0>, At<8>, Reply<'a>> for ReplyPayloads<'a> {
     fn read_at(
         &mut self,
         number: usize,
@@ -283,7 +293,7 @@ impl<'a> VariantPayloads<'a, At<0>, At<8>, Reply<'a>> for ReplyPayloads<'a> {
         strict: bool,
         free: &mut u128,
     ) -> Result<bool, Error> {
-        VariantPayloads::<At<0>, At<8>, Reply<'a>>::read_at(
+        PayloadsView::<At<0>, At<8>, Reply<'a>>::read_at(
             &mut self.all,
             number,
             input,
@@ -292,12 +302,16 @@ impl<'a> VariantPayloads<'a, At<0>, At<8>, Reply<'a>> for ReplyPayloads<'a> {
             free,
         )
     }
+}
+
+impl<'a> PayloadsDecoder<At<0>, At<8>, Reply<'a>> for ReplyPayloads<'a> {
+    ghost makes_free = { ⟦<Decoders<'a> as PayloadsDecoder<At<0>, At<8>, Reply<'a>>>⟧.makes_free };
 
     fn decode_at(&mut self, number: usize) -> Result<Reply<'a>, Error> {
-        VariantPayloads::<At<0>, At<8>, Reply<'a>>::decode_at(&mut self.all, number)
+        PayloadsDecoder::<At<0>, At<8>, Reply<'a>>::decode_at(&mut self.all, number)
     }
 
-    fn sized(&self) {}
+    ghost same_shapes = { refl };
 }
 
 impl<'a> HasEncoder for Reply<'a> {

@@ -5,8 +5,9 @@ ghost use Rattle.bitcode.specs.ByHand.{payload_and, payloads_in, refl};
 ghost use Rattle.bitcode_own_types.specs.declared.two.Two.{Two};
 
 use bitcode::own::{
-    At, DecodersOf2, EncodersOf2, Enum, EnumDecoder, EnumEncoder, EnumOf, OneOf2, VariantColumns,
-    VariantPayloads, Variants2, WritesVariants, told_as,
+    At, DecodersOf2, EncodersOf2, Enum, EnumDecoder, EnumEncoder, EnumOf, HoldsPayloads,
+    HoldsVariantColumns, NewPayloads, OneOf2, PayloadsDecoder, PayloadsOf, PayloadsView,
+    VariantColumns, Variants2, WritesVariants, told_as,
 };
 use bitcode::{DecodeOwned, Error, HasDecoder, HasEncoder, Shaped};
 use std::alloc::Global;
@@ -88,9 +89,11 @@ pub struct TwoColumns {
     all: Columns,
 }
 
-impl VariantColumns for TwoColumns {
-    ghost columns = { columns_in (λ c. c.all) ⟦<Columns as VariantColumns>⟧.columns };
+impl HoldsVariantColumns for TwoColumns {
+    ghost columns = { columns_in (λ c. c.all) ⟦<Columns as HoldsVariantColumns>⟧.columns };
+}
 
+impl VariantColumns for TwoColumns {
     fn new(alloc: Global) -> Self {
         TwoColumns {
             all: VariantColumns::new(alloc),
@@ -120,16 +123,23 @@ pub struct TwoPayloads<'a> {
     all: Decoders<'a>,
 }
 
-impl<'a> VariantPayloads<'a, At<0>, At<2>, Two> for TwoPayloads<'a> {
-    ghost held = { payloads_in (λ d. d.all)
-        ⟦<Decoders<'a> as VariantPayloads<'a, At<0>, At<2>, Two>>⟧.held };
+impl<'a> HoldsPayloads for TwoPayloads<'a> {
+    ghost held = { payloads_in (λ d. d.all) ⟦<Decoders<'a> as HoldsPayloads>⟧.held };
+}
 
+impl<'a> NewPayloads for TwoPayloads<'a> {
     fn new(alloc: Global) -> Self {
         TwoPayloads {
-            all: VariantPayloads::<At<0>, At<2>, Two>::new(alloc),
+            all: NewPayloads::new(alloc),
         }
     }
+}
 
+impl<'a> PayloadsOf<At<0>, At<2>, Two> for TwoPayloads<'a> {
+    ghost counted = { record { shapes = refl; lists = λ d. refl } };
+}
+
+impl<'a> PayloadsView<'a, At<0>, At<2>, Two> for TwoPayloads<'a> {
     fn read_at(
         &mut self,
         number: usize,
@@ -138,14 +148,18 @@ impl<'a> VariantPayloads<'a, At<0>, At<2>, Two> for TwoPayloads<'a> {
         strict: bool,
         free: &mut u128,
     ) -> Result<bool, Error> {
-        VariantPayloads::<At<0>, At<2>, Two>::read_at(&mut self.all, number, input, k, strict, free)
+        PayloadsView::<At<0>, At<2>, Two>::read_at(&mut self.all, number, input, k, strict, free)
     }
+}
+
+impl<'a> PayloadsDecoder<At<0>, At<2>, Two> for TwoPayloads<'a> {
+    ghost makes_free = { ⟦<Decoders<'a> as PayloadsDecoder<At<0>, At<2>, Two>>⟧.makes_free };
 
     fn decode_at(&mut self, number: usize) -> Result<Two, Error> {
-        VariantPayloads::<At<0>, At<2>, Two>::decode_at(&mut self.all, number)
+        PayloadsDecoder::<At<0>, At<2>, Two>::decode_at(&mut self.all, number)
     }
 
-    fn sized(&self) {}
+    ghost same_shapes = { refl };
 }
 
 impl HasEncoder for Two {

@@ -8,8 +8,9 @@ ghost use Rattle.frames.specs.declared.message.Message.{Message};
 use crate::celsius::Celsius;
 use crate::level::Level;
 use bitcode::own::{
-    At, DecodersOf4, EncodersOf4, Enum, EnumDecoder, EnumEncoder, EnumOf, OneOf4, VariantColumns,
-    VariantPayloads, Variants4, WritesVariants, told_as,
+    At, DecodersOf4, EncodersOf4, Enum, EnumDecoder, EnumEncoder, EnumOf, HoldsPayloads,
+    HoldsVariantColumns, NewPayloads, OneOf4, PayloadsDecoder, PayloadsOf, PayloadsView,
+    VariantColumns, Variants4, WritesVariants, told_as,
 };
 use bitcode::{Error, HasDecoder, HasEncoder, Shaped};
 use std::alloc::Global;
@@ -137,9 +138,11 @@ pub struct MessageColumns {
     all: Columns,
 }
 
-impl VariantColumns for MessageColumns {
-    ghost columns = { columns_in (λ c. c.all) ⟦<Columns as VariantColumns>⟧.columns };
+impl HoldsVariantColumns for MessageColumns {
+    ghost columns = { columns_in (λ c. c.all) ⟦<Columns as HoldsVariantColumns>⟧.columns };
+}
 
+impl VariantColumns for MessageColumns {
     fn new(alloc: Global) -> Self {
         MessageColumns {
             all: VariantColumns::new(alloc),
@@ -169,16 +172,23 @@ pub struct MessagePayloads<'a> {
     all: Decoders<'a>,
 }
 
-impl<'a> VariantPayloads<'a, At<0>, At<4>, Message<'a>> for MessagePayloads<'a> {
-    ghost held = { payloads_in (λ d. d.all)
-        ⟦<Decoders<'a> as VariantPayloads<'a, At<0>, At<4>, Message<'a>>>⟧.held };
+impl<'a> HoldsPayloads for MessagePayloads<'a> {
+    ghost held = { payloads_in (λ d. d.all) ⟦<Decoders<'a> as HoldsPayloads>⟧.held };
+}
 
+impl<'a> NewPayloads for MessagePayloads<'a> {
     fn new(alloc: Global) -> Self {
         MessagePayloads {
-            all: VariantPayloads::<At<0>, At<4>, Message<'a>>::new(alloc),
+            all: NewPayloads::new(alloc),
         }
     }
+}
 
+impl<'a> PayloadsOf<At<0>, At<4>, Message<'a>> for MessagePayloads<'a> {
+    ghost counted = { record { shapes = refl; lists = λ d. refl } };
+}
+
+impl<'a> PayloadsView<'a, At<0>, At<4>, Message<'a>> for MessagePayloads<'a> {
     fn read_at(
         &mut self,
         number: usize,
@@ -187,7 +197,7 @@ impl<'a> VariantPayloads<'a, At<0>, At<4>, Message<'a>> for MessagePayloads<'a> 
         strict: bool,
         free: &mut u128,
     ) -> Result<bool, Error> {
-        VariantPayloads::<At<0>, At<4>, Message<'a>>::read_at(
+        PayloadsView::<At<0>, At<4>, Message<'a>>::read_at(
             &mut self.all,
             number,
             input,
@@ -196,12 +206,16 @@ impl<'a> VariantPayloads<'a, At<0>, At<4>, Message<'a>> for MessagePayloads<'a> 
             free,
         )
     }
+}
+
+impl<'a> PayloadsDecoder<At<0>, At<4>, Message<'a>> for MessagePayloads<'a> {
+    ghost makes_free = { ⟦<Decoders<'a> as PayloadsDecoder<At<0>, At<4>, Message<'a>>>⟧.makes_free };
 
     fn decode_at(&mut self, number: usize) -> Result<Message<'a>, Error> {
-        VariantPayloads::<At<0>, At<4>, Message<'a>>::decode_at(&mut self.all, number)
+        PayloadsDecoder::<At<0>, At<4>, Message<'a>>::decode_at(&mut self.all, number)
     }
 
-    fn sized(&self) {}
+    ghost same_shapes = { refl };
 }
 
 impl<'a> HasEncoder for Message<'a> {

@@ -6,13 +6,16 @@ ghost use Rattle.bitcode_coder.specs.Coder.{IsWritingRefusal};
 ghost use Rattle.bitcode_enums.specs.ByNumber.{columns_at, KeepsOthers};
 ghost use Rattle.bitcode_enums.specs.VariantsOf.{IsVariant};
 ghost use Rattle.bitcode_enums.specs.OneOf.{of_one_of_2};
+ghost use Rattle.bitcode_enums.specs.PlacedShapes.{shapes_of_2};
 
-use crate::columns::VariantColumns;
+use crate::columns::{HoldsVariantColumns, VariantColumns};
 use crate::enums::Enum;
 use crate::number::VariantNumber;
-use crate::payloads::{VariantPayloads, read_and_count};
+use crate::payloads::{
+    HoldsPayloads, NewPayloads, PayloadsDecoder, PayloadsOf, PayloadsView, read_and_count,
+};
 use crate::writes::{WritesVariants, encode_payload_fields};
-use bitcode_coder::coder::{Buffer, Decoder, Encoder, NewDecoder, View};
+use bitcode_coder::coder::{Buffer, Decoder, Encoder, HoldsColumns, HoldsData, NewDecoder, View};
 use bitcode_derive::derive::{HasDecoder, HasEncoder};
 use bitcode_memory::error::Error;
 use bitcode_shapes::shaped::Shaped;
@@ -97,7 +100,7 @@ pub trait Variants2<First: VariantNumber, End: VariantNumber, P1: Shaped, P2: Sh
         P2.data.lists P2.data.makes values.1 × (First.value + 2 ≡ End.value) };
 }
 
-impl<First: VariantNumber, E1: Buffer, E2: Buffer> Encoders2<First, E1, E2> {
+impl<First: VariantNumber, E1: Buffer, E2: HoldsColumns> Encoders2<First, E1, E2> {
     /// Reserves room for the payload of a value of the first variant, and appends it to that variant's columns.
     ///
     /// Errors: those of [`WritesVariants::write`].
@@ -115,28 +118,30 @@ impl<First: VariantNumber, E1: Buffer, E2: Buffer> Encoders2<First, E1, E2> {
         E1: Encoder<F::Whole> + FieldsEncoder<F>,
         requires { t.now ≡ T.values.0 (F.whole fields.now) }
         ensures others { KeepsOthers no_columns (T.each.variants.index t.now - First.value)
-            (⟦<Encoders2<First, E1, E2> as VariantColumns>⟧.columns.lists self.old)
-            (⟦<Encoders2<First, E1, E2> as VariantColumns>⟧.columns.lists self.new) }
+            (⟦<Encoders2<First, E1, E2> as HoldsVariantColumns>⟧.columns.lists self.old)
+            (⟦<Encoders2<First, E1, E2> as HoldsVariantColumns>⟧.columns.lists self.new) }
         ensures joined { OnOk result
             (T.each.variants.joins t.now
             (columns_at (T.each.variants.index t.now - First.value)
-            (⟦<Encoders2<First, E1, E2> as VariantColumns>⟧.columns.lists self.old))
+            (⟦<Encoders2<First, E1, E2> as HoldsVariantColumns>⟧.columns.lists self.old))
             (columns_at (T.each.variants.index t.now - First.value)
-            (⟦<Encoders2<First, E1, E2> as VariantColumns>⟧.columns.lists self.new))) }
+            (⟦<Encoders2<First, E1, E2> as HoldsVariantColumns>⟧.columns.lists self.new))) }
         ensures form { emptied
             (columns_at (T.each.variants.index t.now - First.value)
-            (⟦<Encoders2<First, E1, E2> as VariantColumns>⟧.columns.lists self.new)) ≡ emptied
+            (⟦<Encoders2<First, E1, E2> as HoldsVariantColumns>⟧.columns.lists self.new)) ≡ emptied
             (columns_at (T.each.variants.index t.now - First.value)
-            (⟦<Encoders2<First, E1, E2> as VariantColumns>⟧.columns.lists self.old)) }
+            (⟦<Encoders2<First, E1, E2> as HoldsVariantColumns>⟧.columns.lists self.old)) }
         ensures refused { IfErr result
             (λ e. IsWritingRefusal e.reason
             (T.each.variants.overflows t.now
             (columns_at (T.each.variants.index t.now - First.value)
-            (⟦<Encoders2<First, E1, E2> as VariantColumns>⟧.columns.lists self.old)))) }
+            (⟦<Encoders2<First, E1, E2> as HoldsVariantColumns>⟧.columns.lists self.old)))) }
     {
         encode_payload_fields(&mut self.first, fields)
     }
+}
 
+impl<First: VariantNumber, E1: HoldsColumns, E2: Buffer> Encoders2<First, E1, E2> {
     /// Reserves room for the payload of a value of the second variant, and appends it to that variant's columns.
     ///
     /// Errors: those of [`WritesVariants::write`].
@@ -154,35 +159,38 @@ impl<First: VariantNumber, E1: Buffer, E2: Buffer> Encoders2<First, E1, E2> {
         E2: Encoder<F::Whole> + FieldsEncoder<F>,
         requires { t.now ≡ T.values.1 (F.whole fields.now) }
         ensures others { KeepsOthers no_columns (T.each.variants.index t.now - First.value)
-            (⟦<Encoders2<First, E1, E2> as VariantColumns>⟧.columns.lists self.old)
-            (⟦<Encoders2<First, E1, E2> as VariantColumns>⟧.columns.lists self.new) }
+            (⟦<Encoders2<First, E1, E2> as HoldsVariantColumns>⟧.columns.lists self.old)
+            (⟦<Encoders2<First, E1, E2> as HoldsVariantColumns>⟧.columns.lists self.new) }
         ensures joined { OnOk result
             (T.each.variants.joins t.now
             (columns_at (T.each.variants.index t.now - First.value)
-            (⟦<Encoders2<First, E1, E2> as VariantColumns>⟧.columns.lists self.old))
+            (⟦<Encoders2<First, E1, E2> as HoldsVariantColumns>⟧.columns.lists self.old))
             (columns_at (T.each.variants.index t.now - First.value)
-            (⟦<Encoders2<First, E1, E2> as VariantColumns>⟧.columns.lists self.new))) }
+            (⟦<Encoders2<First, E1, E2> as HoldsVariantColumns>⟧.columns.lists self.new))) }
         ensures form { emptied
             (columns_at (T.each.variants.index t.now - First.value)
-            (⟦<Encoders2<First, E1, E2> as VariantColumns>⟧.columns.lists self.new)) ≡ emptied
+            (⟦<Encoders2<First, E1, E2> as HoldsVariantColumns>⟧.columns.lists self.new)) ≡ emptied
             (columns_at (T.each.variants.index t.now - First.value)
-            (⟦<Encoders2<First, E1, E2> as VariantColumns>⟧.columns.lists self.old)) }
+            (⟦<Encoders2<First, E1, E2> as HoldsVariantColumns>⟧.columns.lists self.old)) }
         ensures refused { IfErr result
             (λ e. IsWritingRefusal e.reason
             (T.each.variants.overflows t.now
             (columns_at (T.each.variants.index t.now - First.value)
-            (⟦<Encoders2<First, E1, E2> as VariantColumns>⟧.columns.lists self.old)))) }
+            (⟦<Encoders2<First, E1, E2> as HoldsVariantColumns>⟧.columns.lists self.old)))) }
     {
         encode_payload_fields(&mut self.second, fields)
     }
 }
 
-impl<First: VariantNumber, E1: Buffer, E2: Buffer> VariantColumns for Encoders2<First, E1, E2> {
+impl<First: VariantNumber, E1: HoldsColumns, E2: HoldsColumns> HoldsVariantColumns
+    for Encoders2<First, E1, E2> {
     ghost columns = { record {
       lists = λ e. E1.columns e.first ∷ E2.columns e.second ∷ [];
       capacity = λ e. E1.capacity e.first + E2.capacity e.second;
     } };
+}
 
+impl<First: VariantNumber, E1: Buffer, E2: Buffer> VariantColumns for Encoders2<First, E1, E2> {
     fn new(alloc: Global) -> Self {
         Encoders2 {
             first: E1::new(alloc),
@@ -202,22 +210,17 @@ impl<First: VariantNumber, E1: Buffer, E2: Buffer> VariantColumns for Encoders2<
     }
 }
 
-impl<
-    'a,
-    First: VariantNumber,
-    End: VariantNumber,
-    P1: Shaped,
-    P2: Shaped,
-    D1: NewDecoder + View<'a> + Decoder<P1>,
-    D2: NewDecoder + View<'a> + Decoder<P2>,
-    T: Variants2<First, End, P1, P2>,
-> VariantPayloads<'a, First, End, T> for Decoders2<First, (P1, P2), D1, D2> {
+impl<First: VariantNumber, P, D1: HoldsData, D2: HoldsData> HoldsPayloads
+    for Decoders2<First, P, D1, D2> {
     ghost held = { record {
+      shapes = D1.shape ∷ D2.shape ∷ [];
       lists = λ d. D1.held d.first ∷ D2.held d.second ∷ [];
       owned = λ d. D1.owned d.first + D2.owned d.second;
-      makes_free = D1.makes_free && D2.makes_free;
     } };
+}
 
+impl<First: VariantNumber, P, D1: NewDecoder, D2: NewDecoder> NewPayloads
+    for Decoders2<First, P, D1, D2> {
     fn new(alloc: Global) -> Self {
         Decoders2 {
             first: D1::new(alloc),
@@ -225,7 +228,30 @@ impl<
             of: PhantomData,
         }
     }
+}
 
+impl<
+    First: VariantNumber,
+    End: VariantNumber,
+    P1: Shaped,
+    P2: Shaped,
+    D1: HoldsData,
+    D2: HoldsData,
+    T: Variants2<First, End, P1, P2>,
+> PayloadsOf<First, End, T> for Decoders2<First, (P1, P2), D1, D2> {
+    ghost counted = { record { shapes = T.are.2; lists = λ d. T.are.2 } };
+}
+
+impl<
+    'a,
+    First: VariantNumber,
+    End: VariantNumber,
+    P1: Shaped,
+    P2: Shaped,
+    D1: NewDecoder + View<'a>,
+    D2: NewDecoder + View<'a>,
+    T: Variants2<First, End, P1, P2>,
+> PayloadsView<'a, First, End, T> for Decoders2<First, (P1, P2), D1, D2> {
     fn read_at(
         &mut self,
         number: usize,
@@ -240,6 +266,21 @@ impl<
             _ => unreachable!(),
         }
     }
+}
+
+impl<
+    First: VariantNumber,
+    End: VariantNumber,
+    P1: Shaped,
+    P2: Shaped,
+    D1: Decoder<P1>,
+    D2: Decoder<P2>,
+    T: Variants2<First, End, P1, P2>,
+> PayloadsDecoder<First, End, T> for Decoders2<First, (P1, P2), D1, D2> {
+    ghost makes_free = { D1.makes_free && D2.makes_free };
+
+    ghost same_shapes = { shapes_of_2 T.each.variants.shapes First.value T.are.0.has_shape
+        D1.same_shape T.are.1.has_shape D2.same_shape };
 
     fn decode_at(&mut self, number: usize) -> Result<T, Error> {
         match number - First::value() {
@@ -248,6 +289,4 @@ impl<
             _ => unreachable!(),
         }
     }
-
-    fn sized(&self) {}
 }

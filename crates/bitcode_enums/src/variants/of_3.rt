@@ -6,13 +6,16 @@ ghost use Rattle.bitcode_coder.specs.Coder.{IsWritingRefusal};
 ghost use Rattle.bitcode_enums.specs.ByNumber.{columns_at, KeepsOthers};
 ghost use Rattle.bitcode_enums.specs.VariantsOf.{IsVariant};
 ghost use Rattle.bitcode_enums.specs.OneOf.{of_one_of_3};
+ghost use Rattle.bitcode_enums.specs.PlacedShapes.{shapes_of_3};
 
-use crate::columns::VariantColumns;
+use crate::columns::{HoldsVariantColumns, VariantColumns};
 use crate::enums::Enum;
 use crate::number::VariantNumber;
-use crate::payloads::{VariantPayloads, read_and_count};
+use crate::payloads::{
+    HoldsPayloads, NewPayloads, PayloadsDecoder, PayloadsOf, PayloadsView, read_and_count,
+};
 use crate::writes::{WritesVariants, encode_payload_fields};
-use bitcode_coder::coder::{Buffer, Decoder, Encoder, NewDecoder, View};
+use bitcode_coder::coder::{Buffer, Decoder, Encoder, HoldsColumns, HoldsData, NewDecoder, View};
 use bitcode_derive::derive::{HasDecoder, HasEncoder};
 use bitcode_memory::error::Error;
 use bitcode_shapes::shaped::Shaped;
@@ -110,7 +113,12 @@ pub trait Variants3<
         P3.data.makes values.2 × (First.value + 3 ≡ End.value) };
 }
 
-impl<First: VariantNumber, E1: Buffer, E2: Buffer, E3: Buffer> Encoders3<First, E1, E2, E3> {
+impl<First: VariantNumber, E1: Buffer, E2: HoldsColumns, E3: HoldsColumns> Encoders3<
+    First,
+    E1,
+    E2,
+    E3,
+> {
     /// Reserves room for the payload of a value of the first variant, and appends it to that variant's columns.
     ///
     /// Errors: those of [`WritesVariants::write`].
@@ -129,28 +137,35 @@ impl<First: VariantNumber, E1: Buffer, E2: Buffer, E3: Buffer> Encoders3<First, 
         E1: Encoder<F::Whole> + FieldsEncoder<F>,
         requires { t.now ≡ T.values.0 (F.whole fields.now) }
         ensures others { KeepsOthers no_columns (T.each.variants.index t.now - First.value)
-            (⟦<Encoders3<First, E1, E2, E3> as VariantColumns>⟧.columns.lists self.old)
-            (⟦<Encoders3<First, E1, E2, E3> as VariantColumns>⟧.columns.lists self.new) }
+            (⟦<Encoders3<First, E1, E2, E3> as HoldsVariantColumns>⟧.columns.lists self.old)
+            (⟦<Encoders3<First, E1, E2, E3> as HoldsVariantColumns>⟧.columns.lists self.new) }
         ensures joined { OnOk result
             (T.each.variants.joins t.now
             (columns_at (T.each.variants.index t.now - First.value)
-            (⟦<Encoders3<First, E1, E2, E3> as VariantColumns>⟧.columns.lists self.old))
+            (⟦<Encoders3<First, E1, E2, E3> as HoldsVariantColumns>⟧.columns.lists self.old))
             (columns_at (T.each.variants.index t.now - First.value)
-            (⟦<Encoders3<First, E1, E2, E3> as VariantColumns>⟧.columns.lists self.new))) }
+            (⟦<Encoders3<First, E1, E2, E3> as HoldsVariantColumns>⟧.columns.lists self.new))) }
         ensures form { emptied
             (columns_at (T.each.variants.index t.now - First.value)
-            (⟦<Encoders3<First, E1, E2, E3> as VariantColumns>⟧.columns.lists self.new)) ≡ emptied
-            (columns_at (T.each.variants.index t.now - First.value)
-            (⟦<Encoders3<First, E1, E2, E3> as VariantColumns>⟧.columns.lists self.old)) }
+            (⟦<Encoders3<First, E1, E2, E3> as HoldsVariantColumns>⟧.columns.lists self.new))
+            ≡ emptied (columns_at (T.each.variants.index t.now - First.value)
+            (⟦<Encoders3<First, E1, E2, E3> as HoldsVariantColumns>⟧.columns.lists self.old)) }
         ensures refused { IfErr result
             (λ e. IsWritingRefusal e.reason
             (T.each.variants.overflows t.now
             (columns_at (T.each.variants.index t.now - First.value)
-            (⟦<Encoders3<First, E1, E2, E3> as VariantColumns>⟧.columns.lists self.old)))) }
+            (⟦<Encoders3<First, E1, E2, E3> as HoldsVariantColumns>⟧.columns.lists self.old)))) }
     {
         encode_payload_fields(&mut self.first, fields)
     }
+}
 
+impl<First: VariantNumber, E1: HoldsColumns, E2: Buffer, E3: HoldsColumns> Encoders3<
+    First,
+    E1,
+    E2,
+    E3,
+> {
     /// Reserves room for the payload of a value of the second variant, and appends it to that variant's columns.
     ///
     /// Errors: those of [`WritesVariants::write`].
@@ -169,28 +184,35 @@ impl<First: VariantNumber, E1: Buffer, E2: Buffer, E3: Buffer> Encoders3<First, 
         E2: Encoder<F::Whole> + FieldsEncoder<F>,
         requires { t.now ≡ T.values.1 (F.whole fields.now) }
         ensures others { KeepsOthers no_columns (T.each.variants.index t.now - First.value)
-            (⟦<Encoders3<First, E1, E2, E3> as VariantColumns>⟧.columns.lists self.old)
-            (⟦<Encoders3<First, E1, E2, E3> as VariantColumns>⟧.columns.lists self.new) }
+            (⟦<Encoders3<First, E1, E2, E3> as HoldsVariantColumns>⟧.columns.lists self.old)
+            (⟦<Encoders3<First, E1, E2, E3> as HoldsVariantColumns>⟧.columns.lists self.new) }
         ensures joined { OnOk result
             (T.each.variants.joins t.now
             (columns_at (T.each.variants.index t.now - First.value)
-            (⟦<Encoders3<First, E1, E2, E3> as VariantColumns>⟧.columns.lists self.old))
+            (⟦<Encoders3<First, E1, E2, E3> as HoldsVariantColumns>⟧.columns.lists self.old))
             (columns_at (T.each.variants.index t.now - First.value)
-            (⟦<Encoders3<First, E1, E2, E3> as VariantColumns>⟧.columns.lists self.new))) }
+            (⟦<Encoders3<First, E1, E2, E3> as HoldsVariantColumns>⟧.columns.lists self.new))) }
         ensures form { emptied
             (columns_at (T.each.variants.index t.now - First.value)
-            (⟦<Encoders3<First, E1, E2, E3> as VariantColumns>⟧.columns.lists self.new)) ≡ emptied
-            (columns_at (T.each.variants.index t.now - First.value)
-            (⟦<Encoders3<First, E1, E2, E3> as VariantColumns>⟧.columns.lists self.old)) }
+            (⟦<Encoders3<First, E1, E2, E3> as HoldsVariantColumns>⟧.columns.lists self.new))
+            ≡ emptied (columns_at (T.each.variants.index t.now - First.value)
+            (⟦<Encoders3<First, E1, E2, E3> as HoldsVariantColumns>⟧.columns.lists self.old)) }
         ensures refused { IfErr result
             (λ e. IsWritingRefusal e.reason
             (T.each.variants.overflows t.now
             (columns_at (T.each.variants.index t.now - First.value)
-            (⟦<Encoders3<First, E1, E2, E3> as VariantColumns>⟧.columns.lists self.old)))) }
+            (⟦<Encoders3<First, E1, E2, E3> as HoldsVariantColumns>⟧.columns.lists self.old)))) }
     {
         encode_payload_fields(&mut self.second, fields)
     }
+}
 
+impl<First: VariantNumber, E1: HoldsColumns, E2: HoldsColumns, E3: Buffer> Encoders3<
+    First,
+    E1,
+    E2,
+    E3,
+> {
     /// Reserves room for the payload of a value of the third variant, and appends it to that variant's columns.
     ///
     /// Errors: those of [`WritesVariants::write`].
@@ -209,36 +231,39 @@ impl<First: VariantNumber, E1: Buffer, E2: Buffer, E3: Buffer> Encoders3<First, 
         E3: Encoder<F::Whole> + FieldsEncoder<F>,
         requires { t.now ≡ T.values.2 (F.whole fields.now) }
         ensures others { KeepsOthers no_columns (T.each.variants.index t.now - First.value)
-            (⟦<Encoders3<First, E1, E2, E3> as VariantColumns>⟧.columns.lists self.old)
-            (⟦<Encoders3<First, E1, E2, E3> as VariantColumns>⟧.columns.lists self.new) }
+            (⟦<Encoders3<First, E1, E2, E3> as HoldsVariantColumns>⟧.columns.lists self.old)
+            (⟦<Encoders3<First, E1, E2, E3> as HoldsVariantColumns>⟧.columns.lists self.new) }
         ensures joined { OnOk result
             (T.each.variants.joins t.now
             (columns_at (T.each.variants.index t.now - First.value)
-            (⟦<Encoders3<First, E1, E2, E3> as VariantColumns>⟧.columns.lists self.old))
+            (⟦<Encoders3<First, E1, E2, E3> as HoldsVariantColumns>⟧.columns.lists self.old))
             (columns_at (T.each.variants.index t.now - First.value)
-            (⟦<Encoders3<First, E1, E2, E3> as VariantColumns>⟧.columns.lists self.new))) }
+            (⟦<Encoders3<First, E1, E2, E3> as HoldsVariantColumns>⟧.columns.lists self.new))) }
         ensures form { emptied
             (columns_at (T.each.variants.index t.now - First.value)
-            (⟦<Encoders3<First, E1, E2, E3> as VariantColumns>⟧.columns.lists self.new)) ≡ emptied
-            (columns_at (T.each.variants.index t.now - First.value)
-            (⟦<Encoders3<First, E1, E2, E3> as VariantColumns>⟧.columns.lists self.old)) }
+            (⟦<Encoders3<First, E1, E2, E3> as HoldsVariantColumns>⟧.columns.lists self.new))
+            ≡ emptied (columns_at (T.each.variants.index t.now - First.value)
+            (⟦<Encoders3<First, E1, E2, E3> as HoldsVariantColumns>⟧.columns.lists self.old)) }
         ensures refused { IfErr result
             (λ e. IsWritingRefusal e.reason
             (T.each.variants.overflows t.now
             (columns_at (T.each.variants.index t.now - First.value)
-            (⟦<Encoders3<First, E1, E2, E3> as VariantColumns>⟧.columns.lists self.old)))) }
+            (⟦<Encoders3<First, E1, E2, E3> as HoldsVariantColumns>⟧.columns.lists self.old)))) }
     {
         encode_payload_fields(&mut self.third, fields)
     }
 }
 
-impl<First: VariantNumber, E1: Buffer, E2: Buffer, E3: Buffer> VariantColumns
+impl<First: VariantNumber, E1: HoldsColumns, E2: HoldsColumns, E3: HoldsColumns> HoldsVariantColumns
     for Encoders3<First, E1, E2, E3> {
     ghost columns = { record {
       lists = λ e. E1.columns e.first ∷ E2.columns e.second ∷ E3.columns e.third ∷ [];
       capacity = λ e. E1.capacity e.first + E2.capacity e.second + E3.capacity e.third;
     } };
+}
 
+impl<First: VariantNumber, E1: Buffer, E2: Buffer, E3: Buffer> VariantColumns
+    for Encoders3<First, E1, E2, E3> {
     fn new(alloc: Global) -> Self {
         Encoders3 {
             first: E1::new(alloc),
@@ -261,24 +286,17 @@ impl<First: VariantNumber, E1: Buffer, E2: Buffer, E3: Buffer> VariantColumns
     }
 }
 
-impl<
-    'a,
-    First: VariantNumber,
-    End: VariantNumber,
-    P1: Shaped,
-    P2: Shaped,
-    P3: Shaped,
-    D1: NewDecoder + View<'a> + Decoder<P1>,
-    D2: NewDecoder + View<'a> + Decoder<P2>,
-    D3: NewDecoder + View<'a> + Decoder<P3>,
-    T: Variants3<First, End, P1, P2, P3>,
-> VariantPayloads<'a, First, End, T> for Decoders3<First, (P1, P2, P3), D1, D2, D3> {
+impl<First: VariantNumber, P, D1: HoldsData, D2: HoldsData, D3: HoldsData> HoldsPayloads
+    for Decoders3<First, P, D1, D2, D3> {
     ghost held = { record {
+      shapes = D1.shape ∷ D2.shape ∷ D3.shape ∷ [];
       lists = λ d. D1.held d.first ∷ D2.held d.second ∷ D3.held d.third ∷ [];
       owned = λ d. D1.owned d.first + D2.owned d.second + D3.owned d.third;
-      makes_free = D1.makes_free && D2.makes_free && D3.makes_free;
     } };
+}
 
+impl<First: VariantNumber, P, D1: NewDecoder, D2: NewDecoder, D3: NewDecoder> NewPayloads
+    for Decoders3<First, P, D1, D2, D3> {
     fn new(alloc: Global) -> Self {
         Decoders3 {
             first: D1::new(alloc),
@@ -287,7 +305,34 @@ impl<
             of: PhantomData,
         }
     }
+}
 
+impl<
+    First: VariantNumber,
+    End: VariantNumber,
+    P1: Shaped,
+    P2: Shaped,
+    P3: Shaped,
+    D1: HoldsData,
+    D2: HoldsData,
+    D3: HoldsData,
+    T: Variants3<First, End, P1, P2, P3>,
+> PayloadsOf<First, End, T> for Decoders3<First, (P1, P2, P3), D1, D2, D3> {
+    ghost counted = { record { shapes = T.are.3; lists = λ d. T.are.3 } };
+}
+
+impl<
+    'a,
+    First: VariantNumber,
+    End: VariantNumber,
+    P1: Shaped,
+    P2: Shaped,
+    P3: Shaped,
+    D1: NewDecoder + View<'a>,
+    D2: NewDecoder + View<'a>,
+    D3: NewDecoder + View<'a>,
+    T: Variants3<First, End, P1, P2, P3>,
+> PayloadsView<'a, First, End, T> for Decoders3<First, (P1, P2, P3), D1, D2, D3> {
     fn read_at(
         &mut self,
         number: usize,
@@ -303,6 +348,23 @@ impl<
             _ => unreachable!(),
         }
     }
+}
+
+impl<
+    First: VariantNumber,
+    End: VariantNumber,
+    P1: Shaped,
+    P2: Shaped,
+    P3: Shaped,
+    D1: Decoder<P1>,
+    D2: Decoder<P2>,
+    D3: Decoder<P3>,
+    T: Variants3<First, End, P1, P2, P3>,
+> PayloadsDecoder<First, End, T> for Decoders3<First, (P1, P2, P3), D1, D2, D3> {
+    ghost makes_free = { D1.makes_free && D2.makes_free && D3.makes_free };
+
+    ghost same_shapes = { shapes_of_3 T.each.variants.shapes First.value T.are.0.has_shape
+        D1.same_shape T.are.1.has_shape D2.same_shape T.are.2.has_shape D3.same_shape };
 
     fn decode_at(&mut self, number: usize) -> Result<T, Error> {
         match number - First::value() {
@@ -312,6 +374,4 @@ impl<
             _ => unreachable!(),
         }
     }
-
-    fn sized(&self) {}
 }

@@ -6,13 +6,16 @@ ghost use Rattle.bitcode_coder.specs.Coder.{IsWritingRefusal};
 ghost use Rattle.bitcode_enums.specs.ByNumber.{columns_at, KeepsOthers};
 ghost use Rattle.bitcode_enums.specs.VariantsOf.{IsVariant};
 ghost use Rattle.bitcode_enums.specs.OneOf.{of_one_of_4};
+ghost use Rattle.bitcode_enums.specs.PlacedShapes.{shapes_of_4};
 
-use crate::columns::VariantColumns;
+use crate::columns::{HoldsVariantColumns, VariantColumns};
 use crate::enums::Enum;
 use crate::number::VariantNumber;
-use crate::payloads::{VariantPayloads, read_and_count};
+use crate::payloads::{
+    HoldsPayloads, NewPayloads, PayloadsDecoder, PayloadsOf, PayloadsView, read_and_count,
+};
 use crate::writes::{WritesVariants, encode_payload_fields};
-use bitcode_coder::coder::{Buffer, Decoder, Encoder, NewDecoder, View};
+use bitcode_coder::coder::{Buffer, Decoder, Encoder, HoldsColumns, HoldsData, NewDecoder, View};
 use bitcode_derive::derive::{HasDecoder, HasEncoder};
 use bitcode_memory::error::Error;
 use bitcode_shapes::shaped::Shaped;
@@ -117,13 +120,13 @@ pub trait Variants4<
         P4.data.lists P4.data.makes values.3 × (First.value + 4 ≡ End.value) };
 }
 
-impl<First: VariantNumber, E1: Buffer, E2: Buffer, E3: Buffer, E4: Buffer> Encoders4<
-    First,
-    E1,
-    E2,
-    E3,
-    E4,
-> {
+impl<
+    First: VariantNumber,
+    E1: Buffer,
+    E2: HoldsColumns,
+    E3: HoldsColumns,
+    E4: HoldsColumns,
+> Encoders4<First, E1, E2, E3, E4> {
     /// Reserves room for the payload of a value of the first variant, and appends it to that variant's columns.
     ///
     /// Errors: those of [`WritesVariants::write`].
@@ -143,28 +146,37 @@ impl<First: VariantNumber, E1: Buffer, E2: Buffer, E3: Buffer, E4: Buffer> Encod
         E1: Encoder<F::Whole> + FieldsEncoder<F>,
         requires { t.now ≡ T.values.0 (F.whole fields.now) }
         ensures others { KeepsOthers no_columns (T.each.variants.index t.now - First.value)
-            (⟦<Encoders4<First, E1, E2, E3, E4> as VariantColumns>⟧.columns.lists self.old)
-            (⟦<Encoders4<First, E1, E2, E3, E4> as VariantColumns>⟧.columns.lists self.new) }
+            (⟦<Encoders4<First, E1, E2, E3, E4> as HoldsVariantColumns>⟧.columns.lists self.old)
+            (⟦<Encoders4<First, E1, E2, E3, E4> as HoldsVariantColumns>⟧.columns.lists self.new) }
         ensures joined { OnOk result
             (T.each.variants.joins t.now
             (columns_at (T.each.variants.index t.now - First.value)
-            (⟦<Encoders4<First, E1, E2, E3, E4> as VariantColumns>⟧.columns.lists self.old))
+            (⟦<Encoders4<First, E1, E2, E3, E4> as HoldsVariantColumns>⟧.columns.lists self.old))
             (columns_at (T.each.variants.index t.now - First.value)
-            (⟦<Encoders4<First, E1, E2, E3, E4> as VariantColumns>⟧.columns.lists self.new))) }
+            (⟦<Encoders4<First, E1, E2, E3, E4> as HoldsVariantColumns>⟧.columns.lists self.new))) }
         ensures form { emptied
             (columns_at (T.each.variants.index t.now - First.value)
-            (⟦<Encoders4<First, E1, E2, E3, E4> as VariantColumns>⟧.columns.lists self.new))
+            (⟦<Encoders4<First, E1, E2, E3, E4> as HoldsVariantColumns>⟧.columns.lists self.new))
             ≡ emptied (columns_at (T.each.variants.index t.now - First.value)
-            (⟦<Encoders4<First, E1, E2, E3, E4> as VariantColumns>⟧.columns.lists self.old)) }
+            (⟦<Encoders4<First, E1, E2, E3, E4> as HoldsVariantColumns>⟧.columns.lists self.old)) }
         ensures refused { IfErr result
             (λ e. IsWritingRefusal e.reason
             (T.each.variants.overflows t.now
             (columns_at (T.each.variants.index t.now - First.value)
-            (⟦<Encoders4<First, E1, E2, E3, E4> as VariantColumns>⟧.columns.lists self.old)))) }
+            (⟦<Encoders4<First, E1, E2, E3, E4> as HoldsVariantColumns>⟧.columns.lists
+            self.old)))) }
     {
         encode_payload_fields(&mut self.first, fields)
     }
+}
 
+impl<
+    First: VariantNumber,
+    E1: HoldsColumns,
+    E2: Buffer,
+    E3: HoldsColumns,
+    E4: HoldsColumns,
+> Encoders4<First, E1, E2, E3, E4> {
     /// Reserves room for the payload of a value of the second variant, and appends it to that variant's columns.
     ///
     /// Errors: those of [`WritesVariants::write`].
@@ -184,28 +196,37 @@ impl<First: VariantNumber, E1: Buffer, E2: Buffer, E3: Buffer, E4: Buffer> Encod
         E2: Encoder<F::Whole> + FieldsEncoder<F>,
         requires { t.now ≡ T.values.1 (F.whole fields.now) }
         ensures others { KeepsOthers no_columns (T.each.variants.index t.now - First.value)
-            (⟦<Encoders4<First, E1, E2, E3, E4> as VariantColumns>⟧.columns.lists self.old)
-            (⟦<Encoders4<First, E1, E2, E3, E4> as VariantColumns>⟧.columns.lists self.new) }
+            (⟦<Encoders4<First, E1, E2, E3, E4> as HoldsVariantColumns>⟧.columns.lists self.old)
+            (⟦<Encoders4<First, E1, E2, E3, E4> as HoldsVariantColumns>⟧.columns.lists self.new) }
         ensures joined { OnOk result
             (T.each.variants.joins t.now
             (columns_at (T.each.variants.index t.now - First.value)
-            (⟦<Encoders4<First, E1, E2, E3, E4> as VariantColumns>⟧.columns.lists self.old))
+            (⟦<Encoders4<First, E1, E2, E3, E4> as HoldsVariantColumns>⟧.columns.lists self.old))
             (columns_at (T.each.variants.index t.now - First.value)
-            (⟦<Encoders4<First, E1, E2, E3, E4> as VariantColumns>⟧.columns.lists self.new))) }
+            (⟦<Encoders4<First, E1, E2, E3, E4> as HoldsVariantColumns>⟧.columns.lists self.new))) }
         ensures form { emptied
             (columns_at (T.each.variants.index t.now - First.value)
-            (⟦<Encoders4<First, E1, E2, E3, E4> as VariantColumns>⟧.columns.lists self.new))
+            (⟦<Encoders4<First, E1, E2, E3, E4> as HoldsVariantColumns>⟧.columns.lists self.new))
             ≡ emptied (columns_at (T.each.variants.index t.now - First.value)
-            (⟦<Encoders4<First, E1, E2, E3, E4> as VariantColumns>⟧.columns.lists self.old)) }
+            (⟦<Encoders4<First, E1, E2, E3, E4> as HoldsVariantColumns>⟧.columns.lists self.old)) }
         ensures refused { IfErr result
             (λ e. IsWritingRefusal e.reason
             (T.each.variants.overflows t.now
             (columns_at (T.each.variants.index t.now - First.value)
-            (⟦<Encoders4<First, E1, E2, E3, E4> as VariantColumns>⟧.columns.lists self.old)))) }
+            (⟦<Encoders4<First, E1, E2, E3, E4> as HoldsVariantColumns>⟧.columns.lists
+            self.old)))) }
     {
         encode_payload_fields(&mut self.second, fields)
     }
+}
 
+impl<
+    First: VariantNumber,
+    E1: HoldsColumns,
+    E2: HoldsColumns,
+    E3: Buffer,
+    E4: HoldsColumns,
+> Encoders4<First, E1, E2, E3, E4> {
     /// Reserves room for the payload of a value of the third variant, and appends it to that variant's columns.
     ///
     /// Errors: those of [`WritesVariants::write`].
@@ -225,28 +246,37 @@ impl<First: VariantNumber, E1: Buffer, E2: Buffer, E3: Buffer, E4: Buffer> Encod
         E3: Encoder<F::Whole> + FieldsEncoder<F>,
         requires { t.now ≡ T.values.2 (F.whole fields.now) }
         ensures others { KeepsOthers no_columns (T.each.variants.index t.now - First.value)
-            (⟦<Encoders4<First, E1, E2, E3, E4> as VariantColumns>⟧.columns.lists self.old)
-            (⟦<Encoders4<First, E1, E2, E3, E4> as VariantColumns>⟧.columns.lists self.new) }
+            (⟦<Encoders4<First, E1, E2, E3, E4> as HoldsVariantColumns>⟧.columns.lists self.old)
+            (⟦<Encoders4<First, E1, E2, E3, E4> as HoldsVariantColumns>⟧.columns.lists self.new) }
         ensures joined { OnOk result
             (T.each.variants.joins t.now
             (columns_at (T.each.variants.index t.now - First.value)
-            (⟦<Encoders4<First, E1, E2, E3, E4> as VariantColumns>⟧.columns.lists self.old))
+            (⟦<Encoders4<First, E1, E2, E3, E4> as HoldsVariantColumns>⟧.columns.lists self.old))
             (columns_at (T.each.variants.index t.now - First.value)
-            (⟦<Encoders4<First, E1, E2, E3, E4> as VariantColumns>⟧.columns.lists self.new))) }
+            (⟦<Encoders4<First, E1, E2, E3, E4> as HoldsVariantColumns>⟧.columns.lists self.new))) }
         ensures form { emptied
             (columns_at (T.each.variants.index t.now - First.value)
-            (⟦<Encoders4<First, E1, E2, E3, E4> as VariantColumns>⟧.columns.lists self.new))
+            (⟦<Encoders4<First, E1, E2, E3, E4> as HoldsVariantColumns>⟧.columns.lists self.new))
             ≡ emptied (columns_at (T.each.variants.index t.now - First.value)
-            (⟦<Encoders4<First, E1, E2, E3, E4> as VariantColumns>⟧.columns.lists self.old)) }
+            (⟦<Encoders4<First, E1, E2, E3, E4> as HoldsVariantColumns>⟧.columns.lists self.old)) }
         ensures refused { IfErr result
             (λ e. IsWritingRefusal e.reason
             (T.each.variants.overflows t.now
             (columns_at (T.each.variants.index t.now - First.value)
-            (⟦<Encoders4<First, E1, E2, E3, E4> as VariantColumns>⟧.columns.lists self.old)))) }
+            (⟦<Encoders4<First, E1, E2, E3, E4> as HoldsVariantColumns>⟧.columns.lists
+            self.old)))) }
     {
         encode_payload_fields(&mut self.third, fields)
     }
+}
 
+impl<
+    First: VariantNumber,
+    E1: HoldsColumns,
+    E2: HoldsColumns,
+    E3: HoldsColumns,
+    E4: Buffer,
+> Encoders4<First, E1, E2, E3, E4> {
     /// Reserves room for the payload of a value of the fourth variant, and appends it to that variant's columns.
     ///
     /// Errors: those of [`WritesVariants::write`].
@@ -266,38 +296,47 @@ impl<First: VariantNumber, E1: Buffer, E2: Buffer, E3: Buffer, E4: Buffer> Encod
         E4: Encoder<F::Whole> + FieldsEncoder<F>,
         requires { t.now ≡ T.values.3 (F.whole fields.now) }
         ensures others { KeepsOthers no_columns (T.each.variants.index t.now - First.value)
-            (⟦<Encoders4<First, E1, E2, E3, E4> as VariantColumns>⟧.columns.lists self.old)
-            (⟦<Encoders4<First, E1, E2, E3, E4> as VariantColumns>⟧.columns.lists self.new) }
+            (⟦<Encoders4<First, E1, E2, E3, E4> as HoldsVariantColumns>⟧.columns.lists self.old)
+            (⟦<Encoders4<First, E1, E2, E3, E4> as HoldsVariantColumns>⟧.columns.lists self.new) }
         ensures joined { OnOk result
             (T.each.variants.joins t.now
             (columns_at (T.each.variants.index t.now - First.value)
-            (⟦<Encoders4<First, E1, E2, E3, E4> as VariantColumns>⟧.columns.lists self.old))
+            (⟦<Encoders4<First, E1, E2, E3, E4> as HoldsVariantColumns>⟧.columns.lists self.old))
             (columns_at (T.each.variants.index t.now - First.value)
-            (⟦<Encoders4<First, E1, E2, E3, E4> as VariantColumns>⟧.columns.lists self.new))) }
+            (⟦<Encoders4<First, E1, E2, E3, E4> as HoldsVariantColumns>⟧.columns.lists self.new))) }
         ensures form { emptied
             (columns_at (T.each.variants.index t.now - First.value)
-            (⟦<Encoders4<First, E1, E2, E3, E4> as VariantColumns>⟧.columns.lists self.new))
+            (⟦<Encoders4<First, E1, E2, E3, E4> as HoldsVariantColumns>⟧.columns.lists self.new))
             ≡ emptied (columns_at (T.each.variants.index t.now - First.value)
-            (⟦<Encoders4<First, E1, E2, E3, E4> as VariantColumns>⟧.columns.lists self.old)) }
+            (⟦<Encoders4<First, E1, E2, E3, E4> as HoldsVariantColumns>⟧.columns.lists self.old)) }
         ensures refused { IfErr result
             (λ e. IsWritingRefusal e.reason
             (T.each.variants.overflows t.now
             (columns_at (T.each.variants.index t.now - First.value)
-            (⟦<Encoders4<First, E1, E2, E3, E4> as VariantColumns>⟧.columns.lists self.old)))) }
+            (⟦<Encoders4<First, E1, E2, E3, E4> as HoldsVariantColumns>⟧.columns.lists
+            self.old)))) }
     {
         encode_payload_fields(&mut self.fourth, fields)
     }
 }
 
-impl<First: VariantNumber, E1: Buffer, E2: Buffer, E3: Buffer, E4: Buffer> VariantColumns
-    for Encoders4<First, E1, E2, E3, E4> {
+impl<
+    First: VariantNumber,
+    E1: HoldsColumns,
+    E2: HoldsColumns,
+    E3: HoldsColumns,
+    E4: HoldsColumns,
+> HoldsVariantColumns for Encoders4<First, E1, E2, E3, E4> {
     ghost columns = { record {
       lists = λ e. E1.columns e.first ∷ E2.columns e.second ∷ E3.columns e.third ∷ E4.columns
           e.fourth ∷ [];
       capacity = λ e. E1.capacity e.first + E2.capacity e.second + E3.capacity e.third + E4.capacity
           e.fourth;
     } };
+}
 
+impl<First: VariantNumber, E1: Buffer, E2: Buffer, E3: Buffer, E4: Buffer> VariantColumns
+    for Encoders4<First, E1, E2, E3, E4> {
     fn new(alloc: Global) -> Self {
         Encoders4 {
             first: E1::new(alloc),
@@ -324,25 +363,28 @@ impl<First: VariantNumber, E1: Buffer, E2: Buffer, E3: Buffer, E4: Buffer> Varia
 }
 
 impl<
-    'a,
     First: VariantNumber,
-    End: VariantNumber,
-    P1: Shaped,
-    P2: Shaped,
-    P3: Shaped,
-    P4: Shaped,
-    D1: NewDecoder + View<'a> + Decoder<P1>,
-    D2: NewDecoder + View<'a> + Decoder<P2>,
-    D3: NewDecoder + View<'a> + Decoder<P3>,
-    D4: NewDecoder + View<'a> + Decoder<P4>,
-    T: Variants4<First, End, P1, P2, P3, P4>,
-> VariantPayloads<'a, First, End, T> for Decoders4<First, (P1, P2, P3, P4), D1, D2, D3, D4> {
+    P,
+    D1: HoldsData,
+    D2: HoldsData,
+    D3: HoldsData,
+    D4: HoldsData,
+> HoldsPayloads for Decoders4<First, P, D1, D2, D3, D4> {
     ghost held = { record {
+      shapes = D1.shape ∷ D2.shape ∷ D3.shape ∷ D4.shape ∷ [];
       lists = λ d. D1.held d.first ∷ D2.held d.second ∷ D3.held d.third ∷ D4.held d.fourth ∷ [];
       owned = λ d. D1.owned d.first + D2.owned d.second + D3.owned d.third + D4.owned d.fourth;
-      makes_free = D1.makes_free && D2.makes_free && D3.makes_free && D4.makes_free;
     } };
+}
 
+impl<
+    First: VariantNumber,
+    P,
+    D1: NewDecoder,
+    D2: NewDecoder,
+    D3: NewDecoder,
+    D4: NewDecoder,
+> NewPayloads for Decoders4<First, P, D1, D2, D3, D4> {
     fn new(alloc: Global) -> Self {
         Decoders4 {
             first: D1::new(alloc),
@@ -352,7 +394,38 @@ impl<
             of: PhantomData,
         }
     }
+}
 
+impl<
+    First: VariantNumber,
+    End: VariantNumber,
+    P1: Shaped,
+    P2: Shaped,
+    P3: Shaped,
+    P4: Shaped,
+    D1: HoldsData,
+    D2: HoldsData,
+    D3: HoldsData,
+    D4: HoldsData,
+    T: Variants4<First, End, P1, P2, P3, P4>,
+> PayloadsOf<First, End, T> for Decoders4<First, (P1, P2, P3, P4), D1, D2, D3, D4> {
+    ghost counted = { record { shapes = T.are.4; lists = λ d. T.are.4 } };
+}
+
+impl<
+    'a,
+    First: VariantNumber,
+    End: VariantNumber,
+    P1: Shaped,
+    P2: Shaped,
+    P3: Shaped,
+    P4: Shaped,
+    D1: NewDecoder + View<'a>,
+    D2: NewDecoder + View<'a>,
+    D3: NewDecoder + View<'a>,
+    D4: NewDecoder + View<'a>,
+    T: Variants4<First, End, P1, P2, P3, P4>,
+> PayloadsView<'a, First, End, T> for Decoders4<First, (P1, P2, P3, P4), D1, D2, D3, D4> {
     fn read_at(
         &mut self,
         number: usize,
@@ -369,6 +442,26 @@ impl<
             _ => unreachable!(),
         }
     }
+}
+
+impl<
+    First: VariantNumber,
+    End: VariantNumber,
+    P1: Shaped,
+    P2: Shaped,
+    P3: Shaped,
+    P4: Shaped,
+    D1: Decoder<P1>,
+    D2: Decoder<P2>,
+    D3: Decoder<P3>,
+    D4: Decoder<P4>,
+    T: Variants4<First, End, P1, P2, P3, P4>,
+> PayloadsDecoder<First, End, T> for Decoders4<First, (P1, P2, P3, P4), D1, D2, D3, D4> {
+    ghost makes_free = { D1.makes_free && D2.makes_free && D3.makes_free && D4.makes_free };
+
+    ghost same_shapes = { shapes_of_4 T.each.variants.shapes First.value T.are.0.has_shape
+        D1.same_shape T.are.1.has_shape D2.same_shape T.are.2.has_shape D3.same_shape
+        T.are.3.has_shape D4.same_shape };
 
     fn decode_at(&mut self, number: usize) -> Result<T, Error> {
         match number - First::value() {
@@ -379,6 +472,4 @@ impl<
             _ => unreachable!(),
         }
     }
-
-    fn sized(&self) {}
 }

@@ -10,10 +10,10 @@ use Rattle.bitcode_enums.proofs.decoder.EnumDecoderView.read.Given as goal
 
 abbrev pub invariant-loop-number : goal.invariant-loop-number
 invariant-loop-number g l = record {
-  size : length (g.D.VariantPayloads.held.lists l.self.payloads) ≡ g.row.N;
+  size : length (g.D.HoldsPayloads.held.lists l.self.payloads) ≡ g.row.N;
   variants : l.self.variants ≡ l.initial.self.variants;
-  read : ReadTo g.T.Enum.each.variants.shapes (variants_left l.initial.self.variants) l.initial.input.now l.number (g.D.VariantPayloads.held.lists l.self.payloads) l.input.now;
+  read : ReadTo g.T.Enum.each.variants.shapes (variants_left l.initial.self.variants) l.initial.input.now l.number (g.D.HoldsPayloads.held.lists l.self.payloads) l.input.now;
   rest : IsEndOf l.initial.input.now l.input.now;
-  free : l.free ≡ saturated (free_to l.number g.T.Enum.each.variants.shapes (g.D.VariantPayloads.held.lists l.self.payloads));
-  judged : IsTrue l.strict → JudgedTo g.T.Enum.each.variants.shapes l.initial.input.now l.initial.written l.number (g.D.VariantPayloads.held.lists l.self.payloads) l.written l.input.now;
+  free : l.free ≡ saturated (free_to l.number g.T.Enum.each.variants.shapes (g.D.HoldsPayloads.held.lists l.self.payloads));
+  judged : IsTrue l.strict → JudgedTo g.T.Enum.each.variants.shapes l.initial.input.now l.initial.written l.number (g.D.HoldsPayloads.held.lists l.self.payloads) l.written l.input.now;
 }

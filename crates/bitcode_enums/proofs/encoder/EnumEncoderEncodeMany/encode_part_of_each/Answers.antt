@@ -27,9 +27,9 @@ loop-item-init g c = record {
   front = written_none g.T.Shaped.data.lists g.T.Enum.each.variants.index
       g.T.Enum.each.variants.lists g.T.Shaped.data.shape g.T.Enum.each.variants.shapes g.met.T.EnumOf.counted.1
       g.met.T.EnumOf.lists_variants g.row.N g.met.T.EnumOf.counted.0 (g.W.Part.of c.args.which.now) c.args.items.now
-      (written_variants c.args.self.now.variants) (all_columns (g.C.VariantColumns.columns.lists c.args.self.now.payloads.columns))
-      (enum_of_shape g.T.Enum.each.variants.shapes g.T.Shaped.data.shape g.row.N (all_columns (g.C.VariantColumns.columns.lists c.args.self.now.payloads.columns)) g.met.T.EnumOf.counted.0 g.met.T.EnumOf.counted.1
-      (each_has_payloads g.T.Enum.each.variants.shapes (g.C.VariantColumns.columns.lists c.args.self.now.payloads.columns) (whole_form g.T.Enum.each.variants.shapes g.row.N (g.C.VariantColumns.columns.lists c.args.self.now.payloads.columns) g.met.T.EnumOf.counted.0 (g.met.T.WritesVariants.are_columns c.args.self.now.payloads.columns)) 0));
+      (written_variants c.args.self.now.variants) (all_columns (g.C.HoldsVariantColumns.columns.lists c.args.self.now.payloads.columns))
+      (enum_of_shape g.T.Enum.each.variants.shapes g.T.Shaped.data.shape g.row.N (all_columns (g.C.HoldsVariantColumns.columns.lists c.args.self.now.payloads.columns)) g.met.T.EnumOf.counted.0 g.met.T.EnumOf.counted.1
+      (each_has_payloads g.T.Enum.each.variants.shapes (g.C.HoldsVariantColumns.columns.lists c.args.self.now.payloads.columns) (whole_form g.T.Enum.each.variants.shapes g.row.N (g.C.HoldsVariantColumns.columns.lists c.args.self.now.payloads.columns) g.met.T.EnumOf.counted.0 (g.met.T.WritesVariants.are_columns c.args.self.now.payloads.columns)) 0));
   form = refl;
   variants = refl;
 }
@@ -49,11 +49,11 @@ returns-in_err-encode_payload-clause-refused g c =
     overflows_there g.T.Shaped.data.lists g.T.Enum.each.variants.index
     g.T.Enum.each.variants.lists g.T.Shaped.data.shape g.T.Enum.each.variants.shapes g.met.T.EnumOf.counted.1
     g.met.T.EnumOf.lists_variants g.row.N g.met.T.EnumOf.counted.0 (g.W.Part.of c.args.which.now) c.args.items.now
-    (written_variants c.args.self.now.variants) (all_columns (g.C.VariantColumns.columns.lists c.args.self.now.payloads.columns))
-    (enum_of_shape g.T.Enum.each.variants.shapes g.T.Shaped.data.shape g.row.N (all_columns (g.C.VariantColumns.columns.lists c.args.self.now.payloads.columns)) g.met.T.EnumOf.counted.0 g.met.T.EnumOf.counted.1
-    (each_has_payloads g.T.Enum.each.variants.shapes (g.C.VariantColumns.columns.lists c.args.self.now.payloads.columns) (whole_form g.T.Enum.each.variants.shapes g.row.N (g.C.VariantColumns.columns.lists c.args.self.now.payloads.columns) g.met.T.EnumOf.counted.0 (g.met.T.WritesVariants.are_columns c.args.self.now.payloads.columns)) 0))
-    c.loop-item.item-index c.item-item.result c.loop-item-test.true c.item-item.is (all_columns (g.C.VariantColumns.columns.lists c.loop-item.self.payloads.columns)) c.loop-item.invariant.front
-    (subst (λ t. OverflowsWithVariant g.T.Enum.each.variants.index g.T.Enum.each.variants.lists g.T.Enum.each.variants.shapes t (all_columns (g.C.VariantColumns.columns.lists c.loop-item.self.payloads.columns))) c.part.ensures one)
+    (written_variants c.args.self.now.variants) (all_columns (g.C.HoldsVariantColumns.columns.lists c.args.self.now.payloads.columns))
+    (enum_of_shape g.T.Enum.each.variants.shapes g.T.Shaped.data.shape g.row.N (all_columns (g.C.HoldsVariantColumns.columns.lists c.args.self.now.payloads.columns)) g.met.T.EnumOf.counted.0 g.met.T.EnumOf.counted.1
+    (each_has_payloads g.T.Enum.each.variants.shapes (g.C.HoldsVariantColumns.columns.lists c.args.self.now.payloads.columns) (whole_form g.T.Enum.each.variants.shapes g.row.N (g.C.HoldsVariantColumns.columns.lists c.args.self.now.payloads.columns) g.met.T.EnumOf.counted.0 (g.met.T.WritesVariants.are_columns c.args.self.now.payloads.columns)) 0))
+    c.loop-item.item-index c.item-item.result c.loop-item-test.true c.item-item.is (all_columns (g.C.HoldsVariantColumns.columns.lists c.loop-item.self.payloads.columns)) c.loop-item.invariant.front
+    (subst (λ t. OverflowsWithVariant g.T.Enum.each.variants.index g.T.Enum.each.variants.lists g.T.Enum.each.variants.shapes t (all_columns (g.C.HoldsVariantColumns.columns.lists c.loop-item.self.payloads.columns))) c.part.ensures one)
     others.0 others.1) c.in_err-encode_payload.ensures.refused
     )
 
@@ -62,11 +62,11 @@ loop-item-preserved g c = record {
   front = written_more g.T.Shaped.data.lists g.T.Enum.each.variants.index
       g.T.Enum.each.variants.lists g.T.Shaped.data.shape g.T.Enum.each.variants.shapes g.met.T.EnumOf.counted.1
       g.met.T.EnumOf.lists_variants g.row.N g.met.T.EnumOf.counted.0 (g.W.Part.of c.args.which.now) c.args.items.now
-      (written_variants c.args.self.now.variants) (all_columns (g.C.VariantColumns.columns.lists c.args.self.now.payloads.columns))
-      (enum_of_shape g.T.Enum.each.variants.shapes g.T.Shaped.data.shape g.row.N (all_columns (g.C.VariantColumns.columns.lists c.args.self.now.payloads.columns)) g.met.T.EnumOf.counted.0 g.met.T.EnumOf.counted.1
-      (each_has_payloads g.T.Enum.each.variants.shapes (g.C.VariantColumns.columns.lists c.args.self.now.payloads.columns) (whole_form g.T.Enum.each.variants.shapes g.row.N (g.C.VariantColumns.columns.lists c.args.self.now.payloads.columns) g.met.T.EnumOf.counted.0 (g.met.T.WritesVariants.are_columns c.args.self.now.payloads.columns)) 0))
-      c.loop-item.item-index c.item-item.result c.loop-item-test.true c.item-item.is (all_columns (g.C.VariantColumns.columns.lists c.loop-item.self.payloads.columns)) c.loop-item.invariant.front _
-      (subst (λ t. JoinsVariant g.T.Enum.each.variants.index g.T.Enum.each.variants.lists g.T.Enum.each.variants.shapes t (all_columns (g.C.VariantColumns.columns.lists c.loop-item.self.payloads.columns)) (all_columns (g.C.VariantColumns.columns.lists c.encode_payload.new.self.columns))) c.part.ensures c.in_ok-encode_payload.ensures.joined);
+      (written_variants c.args.self.now.variants) (all_columns (g.C.HoldsVariantColumns.columns.lists c.args.self.now.payloads.columns))
+      (enum_of_shape g.T.Enum.each.variants.shapes g.T.Shaped.data.shape g.row.N (all_columns (g.C.HoldsVariantColumns.columns.lists c.args.self.now.payloads.columns)) g.met.T.EnumOf.counted.0 g.met.T.EnumOf.counted.1
+      (each_has_payloads g.T.Enum.each.variants.shapes (g.C.HoldsVariantColumns.columns.lists c.args.self.now.payloads.columns) (whole_form g.T.Enum.each.variants.shapes g.row.N (g.C.HoldsVariantColumns.columns.lists c.args.self.now.payloads.columns) g.met.T.EnumOf.counted.0 (g.met.T.WritesVariants.are_columns c.args.self.now.payloads.columns)) 0))
+      c.loop-item.item-index c.item-item.result c.loop-item-test.true c.item-item.is (all_columns (g.C.HoldsVariantColumns.columns.lists c.loop-item.self.payloads.columns)) c.loop-item.invariant.front _
+      (subst (λ t. JoinsVariant g.T.Enum.each.variants.index g.T.Enum.each.variants.lists g.T.Enum.each.variants.shapes t (all_columns (g.C.HoldsVariantColumns.columns.lists c.loop-item.self.payloads.columns)) (all_columns (g.C.HoldsVariantColumns.columns.lists c.encode_payload.new.self.columns))) c.part.ensures c.in_ok-encode_payload.ensures.joined);
   form = c.encode_payload.ensures.form ∙ c.loop-item.invariant.form;
   variants = c.loop-item.invariant.variants;
 }
@@ -76,8 +76,8 @@ returns-clause-joined g c =
     written_all g.T.Shaped.data.lists g.T.Enum.each.variants.index
     g.T.Enum.each.variants.lists g.T.Shaped.data.shape g.T.Enum.each.variants.shapes g.met.T.EnumOf.counted.1
     g.met.T.EnumOf.lists_variants g.row.N g.met.T.EnumOf.counted.0 (g.W.Part.of c.args.which.now) c.args.items.now
-    (written_variants c.args.self.now.variants) (all_columns (g.C.VariantColumns.columns.lists c.args.self.now.payloads.columns))
-    (enum_of_shape g.T.Enum.each.variants.shapes g.T.Shaped.data.shape g.row.N (all_columns (g.C.VariantColumns.columns.lists c.args.self.now.payloads.columns)) g.met.T.EnumOf.counted.0 g.met.T.EnumOf.counted.1
-    (each_has_payloads g.T.Enum.each.variants.shapes (g.C.VariantColumns.columns.lists c.args.self.now.payloads.columns) (whole_form g.T.Enum.each.variants.shapes g.row.N (g.C.VariantColumns.columns.lists c.args.self.now.payloads.columns) g.met.T.EnumOf.counted.0 (g.met.T.WritesVariants.are_columns c.args.self.now.payloads.columns)) 0))
-    c.loop-item.item-index (all_columns (g.C.VariantColumns.columns.lists c.loop-item.self.payloads.columns)) c.loop-item.invariant.front (omega (arith, c.loop-item-test.false)) _
+    (written_variants c.args.self.now.variants) (all_columns (g.C.HoldsVariantColumns.columns.lists c.args.self.now.payloads.columns))
+    (enum_of_shape g.T.Enum.each.variants.shapes g.T.Shaped.data.shape g.row.N (all_columns (g.C.HoldsVariantColumns.columns.lists c.args.self.now.payloads.columns)) g.met.T.EnumOf.counted.0 g.met.T.EnumOf.counted.1
+    (each_has_payloads g.T.Enum.each.variants.shapes (g.C.HoldsVariantColumns.columns.lists c.args.self.now.payloads.columns) (whole_form g.T.Enum.each.variants.shapes g.row.N (g.C.HoldsVariantColumns.columns.lists c.args.self.now.payloads.columns) g.met.T.EnumOf.counted.0 (g.met.T.WritesVariants.are_columns c.args.self.now.payloads.columns)) 0))
+    c.loop-item.item-index (all_columns (g.C.HoldsVariantColumns.columns.lists c.loop-item.self.payloads.columns)) c.loop-item.invariant.front (omega (arith, c.loop-item-test.false)) _
     (ap written_variants c.loop-item.invariant.variants ∙ c.encode_vectored.ensures.written ∙ ap (λ more. written_variants c.args.self.now.variants ++ more) c.gather_variants.ensures.gathered)

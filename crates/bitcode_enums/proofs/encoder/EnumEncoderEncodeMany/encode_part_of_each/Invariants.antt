@@ -10,10 +10,10 @@ use Rattle.bitcode_enums.proofs.encoder.EnumEncoderEncodeMany.encode_part_of_eac
 abbrev pub invariant-loop-item : goal.invariant-loop-item
 invariant-loop-item g l = record {
   front : JoinsFront g.T.Shaped.data.lists g.T.Shaped.data.shape (map (g.W.Part.of l.which) l.items) (map (g.W.Part.of l.which) (drop l.item-index l.items))
-      (variant_columns g.row.N (written_variants l.fn.self.variants) (all_columns (g.C.VariantColumns.columns.lists l.fn.self.payloads.columns)))
+      (variant_columns g.row.N (written_variants l.fn.self.variants) (all_columns (g.C.HoldsVariantColumns.columns.lists l.fn.self.payloads.columns)))
       (variant_columns g.row.N (written_variants l.fn.self.variants
       ++ map g.T.Enum.each.variants.index (map (g.W.Part.of l.which) (take l.item-index l.items)))
-      (all_columns (g.C.VariantColumns.columns.lists l.self.payloads.columns)));
-  form : emptied (all_columns (g.C.VariantColumns.columns.lists l.self.payloads.columns)) ≡ emptied (all_columns (g.C.VariantColumns.columns.lists l.fn.self.payloads.columns));
+      (all_columns (g.C.HoldsVariantColumns.columns.lists l.self.payloads.columns)));
+  form : emptied (all_columns (g.C.HoldsVariantColumns.columns.lists l.self.payloads.columns)) ≡ emptied (all_columns (g.C.HoldsVariantColumns.columns.lists l.fn.self.payloads.columns));
   variants : l.self.variants ≡ l.initial.self.variants;
 }

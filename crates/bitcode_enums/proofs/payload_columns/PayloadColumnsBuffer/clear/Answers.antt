@@ -4,4 +4,4 @@ use Rattle.bitcode_enums.proofs.payload_columns.PayloadColumnsBuffer.clear.Goals
 
 pub returns-clause-empty : goal.returns-clause-empty
 returns-clause-empty g c =
-    emptied_columns (g.C.VariantColumns.columns.lists c.args.self.now.columns) (g.C.VariantColumns.columns.lists c.clear_all.new.self) c.clear_all.ensures.empty
+    emptied_columns (g.C.HoldsVariantColumns.columns.lists c.args.self.now.columns) (g.C.HoldsVariantColumns.columns.lists c.clear_all.new.self) c.clear_all.ensures.empty

@@ -8,8 +8,8 @@ use Rattle.bitcode_enums.proofs.two_groups.TwoGroupsVariantColumns.collect_all.G
 
 pub returns-clause-written : goal.returns-clause-written
 returns-clause-written g c =
-    let first = g.F.VariantColumns.columns.lists c.args.self.now.first in
-    let second = g.S.VariantColumns.columns.lists c.args.self.now.second in
+    let first = g.F.HoldsVariantColumns.columns.lists c.args.self.now.first in
+    let second = g.S.HoldsVariantColumns.columns.lists c.args.self.now.second in
     on_ok_weaker c.collect_all-2.result
     (λ written.
     written ∙ ap (λ bs. bs ++ columns_bytes (all_columns second)) c.in_ok-collect_all.ensures.written
