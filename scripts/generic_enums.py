@@ -22,31 +22,29 @@ COLUMNS = """$encoding WritesVariants<At<0>, At<$count>, $encoders> for $name {
 
 /// The columns of the payloads of `$simple`, by their encoders.
 #[derive(Drop)]
-pub struct ${simple}Columns<$es> {
-    all: $encoders,
-}
+pub struct ${simple}Columns<$es>($encoders);
 
 impl<$hold_columns> HoldsVariantColumns for ${simple}Columns<$es> {
-    ghost columns = { columns_in (λ c. c.all) ⟦<$encoders as HoldsVariantColumns>⟧.columns };
+    ghost columns = { columns_in (λ c. c.0) ⟦<$encoders as HoldsVariantColumns>⟧.columns };
 }
 
 impl<$buffers> VariantColumns for ${simple}Columns<$es> {
     fn new(alloc: Global) -> Self {
-        ${simple}Columns { all: VariantColumns::new(alloc) }
+        ${simple}Columns(VariantColumns::new(alloc))
     }
 
     fn collect_all(&mut self, out: &mut Vec<u8>) -> Result<(), Error> {
-        self.all.collect_all(out)
+        self.0.collect_all(out)
     }
 
     fn clear_all(&mut self) {
-        self.all.clear_all();
+        self.0.clear_all();
     }
 }
 
 $encoding WritesVariants<At<0>, At<$count>, ${simple}Columns<$es>> for $name {
     fn write(&self, to: &mut ${simple}Columns<$es>) -> Result<(), Error> {
-        WritesVariants::<At<0>, At<$count>, $encoders>::write(self, &mut to.all)
+        WritesVariants::<At<0>, At<$count>, $encoders>::write(self, &mut to.0)
     }
 
     ghost are_columns = { λ c. (refl, $inside) };
@@ -55,17 +53,15 @@ $encoding WritesVariants<At<0>, At<$count>, ${simple}Columns<$es>> for $name {
 """
 PAYLOADS = """/// The payloads that values of `$simple` are made of, by their decoders.
 #[derive(Drop)]
-pub struct ${simple}Payloads<$of_payloads, $ds> {
-    all: Decoders$count<At<0>, $of_payloads, $ds>,
-}
+pub struct ${simple}Payloads<$of_payloads, $ds>(Decoders$count<At<0>, $of_payloads, $ds>);
 
 impl<$of_payloads, $hold_data> HoldsPayloads for ${simple}Payloads<$of_payloads, $ds> {
-    ghost held = { payloads_in (λ d. d.all) ⟦<Decoders$count<At<0>, $of_payloads, $ds> as HoldsPayloads>⟧.held };
+    ghost held = { payloads_in (λ d. d.0) ⟦<Decoders$count<At<0>, $of_payloads, $ds> as HoldsPayloads>⟧.held };
 }
 
 impl<$of_payloads, $new> NewPayloads for ${simple}Payloads<$of_payloads, $ds> {
     fn new(alloc: Global) -> Self {
-        ${simple}Payloads { all: NewPayloads::new(alloc) }
+        ${simple}Payloads(NewPayloads::new(alloc))
     }
 }
 
@@ -82,18 +78,17 @@ impl<$input, $shaped, $views> PayloadsView<$input, At<0>, At<$count>, $name> for
         strict: bool,
         free: &mut u128,
     ) -> Result<bool, Error> {
-        PayloadsView::<At<0>, At<$count>, $name>::read_at(&mut self.all, number, input, k, strict, free)
+        PayloadsView::<At<0>, At<$count>, $name>::read_at(&mut self.0, number, input, k, strict, free)
     }
 }
 
 impl<$shaped, $decoding> PayloadsDecoder<At<0>, At<$count>, $name> for ${simple}Payloads<($payloads), $ds> {
     ghost makes_free = { $makes_free };
+    ghost same_shapes = { $same_shapes };
 
     fn decode_at(&mut self, number: usize) -> Result<$name, Error> {
-        PayloadsDecoder::<At<0>, At<$count>, $name>::decode_at(&mut self.all, number)
+        PayloadsDecoder::<At<0>, At<$count>, $name>::decode_at(&mut self.0, number)
     }
-
-    ghost same_shapes = { $same_shapes };
 }
 
 type Columns$arguments = ${simple}Columns<$all_encoders>;
@@ -203,7 +198,7 @@ class Generic(Numbered):
             "payloads": ", ".join(self.types),
             "decoders": f"Decoders{self.count}<At<0>, ({', '.join(self.types)}), {', '.join(ds)}>",
             "in_place": self.columns_alike(encoders, "c"),
-            "inside": self.columns_alike(encoders, "c.all"),
+            "inside": self.columns_alike(encoders, "c.0"),
             "all_encoders": ", ".join(f"<{type} as HasEncoder>::Encoder" for _, type in es),
             "all_decoders": ", ".join(f"<{type} as HasDecoder<{self.input}>>::Decoder" for type in self.types),
         }

@@ -45,9 +45,7 @@ impl$life Shaped for $name {
 
 impl$life EnumOf<$count> for $name {
     ghost counted = { (refl, refl) };
-
     ghost lists_variants = { λ t d listed. listed };
-
     ghost makes_variants = { λ d t made. made };
 }
 
@@ -57,31 +55,29 @@ ${all_columns}type Decoders<$input> = $decoders;
 
 /// The columns of the payloads of `$simple`.
 #[derive(Drop)]
-pub struct $columns {
-    all: Columns,
-}
+pub struct $columns(Columns);
 
 impl HoldsVariantColumns for $columns {
-    ghost columns = { columns_in (λ c. c.all) ⟦<Columns as HoldsVariantColumns>⟧.columns };
+    ghost columns = { columns_in (λ c. c.0) ⟦<Columns as HoldsVariantColumns>⟧.columns };
 }
 
 impl VariantColumns for $columns {
     fn new(alloc: Global) -> Self {
-        $columns { all: VariantColumns::new(alloc) }
+        $columns(VariantColumns::new(alloc))
     }
 
     fn collect_all(&mut self, out: &mut Vec<u8>) -> Result<(), Error> {
-        self.all.collect_all(out)
+        self.0.collect_all(out)
     }
 
     fn clear_all(&mut self) {
-        self.all.clear_all();
+        self.0.clear_all();
     }
 }
 
 impl$life WritesVariants<At<0>, At<$count>, $columns> for $name {
     fn write(&self, to: &mut $columns) -> Result<(), Error> {
-        WritesVariants::<At<0>, At<$count>, Columns>::write(self, &mut to.all)
+        WritesVariants::<At<0>, At<$count>, Columns>::write(self, &mut to.0)
     }
 
     ghost are_columns = { λ c. (refl, refl) };
@@ -103,14 +99,13 @@ impl DecodeOwned for $name {}
 
 VARIANTS = """${short_names}impl$life Variants$size<At<$first>, At<$end>, $short> for $name {
     ghost values = { ($values) };
+    ghost are = { ($are, refl) };
 
     fn of_payload(payload: OneOf$size<$types>) -> Self
         ensures { result ≡ of_one_of_$size $arms $taken }
     {
         match payload {$made}
     }
-
-    ghost are = { ($are, refl) };
 }
 
 """
@@ -128,19 +123,17 @@ PART = """type $alias<$input> = NotCompared<$decoders>;
 
 /// The payloads of the variants $first to $last of `$simple`.
 #[derive(Drop)]
-pub struct $part<$input> {
-    all: $alias<$input>,$mark
-}
+pub struct $part<$input>($alias<$input>$mark);
 
 """
 # What reads the payloads of some variants, or of all of them.
 PAYLOADS = """impl<$input> HoldsPayloads for $part<$input> {
-    ghost held = { payloads_in (λ d. d.all) ⟦<$alias<$input> as HoldsPayloads>⟧.held };
+    ghost held = { payloads_in (λ d. d.0) ⟦<$alias<$input> as HoldsPayloads>⟧.held };
 }
 
 impl<$input> NewPayloads for $part<$input> {
     fn new(alloc: Global) -> Self {
-        $part { all: NewPayloads::new(alloc),$marked }
+        $part(NewPayloads::new(alloc)$marked)
     }
 }
 
@@ -150,18 +143,17 @@ impl<$input> PayloadsOf<At<$first>, At<$end>, $name> for $part<$input> {
 
 impl<$input> PayloadsView<$input, At<$first>, At<$end>, $name> for $part<$input> {
     fn read_at(&mut self, number: usize, input: &mut &$input [u8], k: usize, strict: bool, free: &mut u128) -> Result<bool, Error> {
-        PayloadsView::<At<$first>, At<$end>, $name>::read_at(&mut self.all, number, input, k, strict, free)
+        PayloadsView::<At<$first>, At<$end>, $name>::read_at(&mut self.0, number, input, k, strict, free)
     }
 }
 
 impl<$input> PayloadsDecoder<At<$first>, At<$end>, $name> for $part<$input> {
     ghost makes_free = { ⟦<$alias<$input> as PayloadsDecoder<At<$first>, At<$end>, $name>>⟧.makes_free };
+    ghost same_shapes = { refl };
 
     fn decode_at(&mut self, number: usize) -> Result<$name, Error> {
-        PayloadsDecoder::<At<$first>, At<$end>, $name>::decode_at(&mut self.all, number)
+        PayloadsDecoder::<At<$first>, At<$end>, $name>::decode_at(&mut self.0, number)
     }
-
-    ghost same_shapes = { refl };
 }
 
 """
@@ -170,31 +162,29 @@ COLUMN_PART = """type $alias = NotCompared<$columns>;
 
 /// The columns of the payloads of the variants $first to $last of `$simple`.
 #[derive(Drop)]
-pub struct $part {
-    all: $alias,
-}
+pub struct $part($alias);
 
 impl HoldsVariantColumns for $part {
-    ghost columns = { columns_in (λ c. c.all) ⟦<$alias as HoldsVariantColumns>⟧.columns };
+    ghost columns = { columns_in (λ c. c.0) ⟦<$alias as HoldsVariantColumns>⟧.columns };
 }
 
 impl VariantColumns for $part {
     fn new(alloc: Global) -> Self {
-        $part { all: VariantColumns::new(alloc) }
+        $part(VariantColumns::new(alloc))
     }
 
     fn collect_all(&mut self, out: &mut Vec<u8>) -> Result<(), Error> {
-        self.all.collect_all(out)
+        self.0.collect_all(out)
     }
 
     fn clear_all(&mut self) {
-        self.all.clear_all();
+        self.0.clear_all();
     }
 }
 
 impl$life WritesVariants<At<$first>, At<$end>, $part> for $name {
     fn write(&self, to: &mut $part) -> Result<(), Error> {
-        WritesVariants::<At<$first>, At<$end>, $alias>::write(self, &mut to.all)
+        WritesVariants::<At<$first>, At<$end>, $alias>::write(self, &mut to.0)
     }
 
     ghost are_columns = { λ c. (refl, refl) };
@@ -203,12 +193,10 @@ impl$life WritesVariants<At<$first>, At<$end>, $part> for $name {
 """
 WHOLE = """/// The payloads that values of `$simple` are made of.
 #[derive(Drop)]
-pub struct $part<$input> {
-    all: $alias<$input>,$mark
-}
+pub struct $part<$input>($alias<$input>$mark);
 
 """
-MARK, MARKED = "\n    of: PhantomData<&'a ()>,", "\n            of: PhantomData,"
+MARK, MARKED = ", PhantomData<&'a ()>", ", PhantomData"
 ARE = "is_variant refl (λ p. refl) (λ p old new h. h) (λ p old h. h) (λ p old new h. h)"
 
 

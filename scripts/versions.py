@@ -309,7 +309,7 @@ class Versions:
 ENCODES = r"(?:WritesVariants|(?:Holds)?VariantColumns|HasEncoder|HasField|InFields)"
 # What of the file of a type only its encoder needs.
 BLOCKS = re.compile(
-    rf"(?ms)^(?:///[^\n]*\n)?(?:#\[[^\n]*\n)*(?:pub struct \w+Columns\b|impl[^{{\n]*\b{ENCODES}\b[^{{\n]* for )[^\n]*\{{.*?^\}}\n\n?"
+    rf"(?ms)^(?:///[^\n]*\n)?(?:#\[[^\n]*\n)*(?:pub struct \w+Columns\([^;]*;\n\n?|impl[^{{\n]*\b{ENCODES}\b[^{{\n]* for [^\n]*\{{.*?^\}}\n\n?)"
 )
 ALIASES = re.compile(r"(?m)^type (?:Columns|Fields)\w*[^;]*;\n\n?")
 

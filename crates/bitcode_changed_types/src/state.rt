@@ -65,6 +65,13 @@ impl EnumOf<3> for State {
 impl Variants3<At<0>, At<3>, (), u32, (u16, bool)> for State {
     ghost values = { (λ p. State.Waiting, λ p. State.Running p, λ p. State.Failed p.0 p.1) };
 
+    ghost are = { (
+      is_variant refl (λ p. refl) (λ p old new h. h) (λ p old h. h) (λ p old new h. h),
+      is_variant refl (λ p. refl) (λ p old new h. h) (λ p old h. h) (λ p old new h. h),
+      is_variant refl (λ p. refl) (λ p old new h. h) (λ p old h. h) (λ p old new h. h),
+      refl,
+    ) };
+
     fn of_payload(payload: OneOf3<(), u32, (u16, bool)>) -> Self
         ensures { result ≡ of_one_of_3 (λ p. State.Waiting) (λ p. State.Running p)
             (λ p. State.Failed p.0 p.1) payload }
@@ -75,13 +82,6 @@ impl Variants3<At<0>, At<3>, (), u32, (u16, bool)> for State {
             OneOf3::Third((code, is_final)) => State::Failed { code, is_final },
         }
     }
-
-    ghost are = { (
-      is_variant refl (λ p. refl) (λ p old new h. h) (λ p old h. h) (λ p old new h. h),
-      is_variant refl (λ p. refl) (λ p old new h. h) (λ p old h. h) (λ p old new h. h),
-      is_variant refl (λ p. refl) (λ p old new h. h) (λ p old h. h) (λ p old new h. h),
-      refl,
-    ) };
 }
 
 type Columns = EncodersOf3<At<0>, (), u32, (u16, bool)>;
@@ -105,33 +105,29 @@ type Decoders<'a> = DecodersOf3<'a, At<0>, (), u32, (u16, bool)>;
 
 /// The columns of the payloads of `State`.
 #[derive(Drop)]
-pub struct StateColumns {
-    all: Columns,
-}
+pub struct StateColumns(Columns);
 
 impl HoldsVariantColumns for StateColumns {
-    ghost columns = { columns_in (λ c. c.all) ⟦<Columns as HoldsVariantColumns>⟧.columns };
+    ghost columns = { columns_in (λ c. c.0) ⟦<Columns as HoldsVariantColumns>⟧.columns };
 }
 
 impl VariantColumns for StateColumns {
     fn new(alloc: Global) -> Self {
-        StateColumns {
-            all: VariantColumns::new(alloc),
-        }
+        StateColumns(VariantColumns::new(alloc))
     }
 
     fn collect_all(&mut self, out: &mut Vec<u8>) -> Result<(), Error> {
-        self.all.collect_all(out)
+        self.0.collect_all(out)
     }
 
     fn clear_all(&mut self) {
-        self.all.clear_all();
+        self.0.clear_all();
     }
 }
 
 impl WritesVariants<At<0>, At<3>, StateColumns> for State {
     fn write(&self, to: &mut StateColumns) -> Result<(), Error> {
-        WritesVariants::<At<0>, At<3>, Columns>::write(self, &mut to.all)
+        WritesVariants::<At<0>, At<3>, Columns>::write(self, &mut to.0)
     }
 
     ghost are_columns = { λ c. (refl, refl) };
@@ -139,19 +135,15 @@ impl WritesVariants<At<0>, At<3>, StateColumns> for State {
 
 /// The payloads that values of `State` are made of.
 #[derive(Drop)]
-pub struct StatePayloads<'a> {
-    all: Decoders<'a>,
-}
+pub struct StatePayloads<'a>(Decoders<'a>);
 
 impl<'a> HoldsPayloads for StatePayloads<'a> {
-    ghost held = { payloads_in (λ d. d.all) ⟦<Decoders<'a> as HoldsPayloads>⟧.held };
+    ghost held = { payloads_in (λ d. d.0) ⟦<Decoders<'a> as HoldsPayloads>⟧.held };
 }
 
 impl<'a> NewPayloads for StatePayloads<'a> {
     fn new(alloc: Global) -> Self {
-        StatePayloads {
-            all: NewPayloads::new(alloc),
-        }
+        StatePayloads(NewPayloads::new(alloc))
     }
 }
 
@@ -168,18 +160,18 @@ impl<'a> PayloadsView<'a, At<0>, At<3>, State> for StatePayloads<'a> {
         strict: bool,
         free: &mut u128,
     ) -> Result<bool, Error> {
-        PayloadsView::<At<0>, At<3>, State>::read_at(&mut self.all, number, input, k, strict, free)
+        PayloadsView::<At<0>, At<3>, State>::read_at(&mut self.0, number, input, k, strict, free)
     }
 }
 
 impl<'a> PayloadsDecoder<At<0>, At<3>, State> for StatePayloads<'a> {
     ghost makes_free = { ⟦<Decoders<'a> as PayloadsDecoder<At<0>, At<3>, State>>⟧.makes_free };
 
-    fn decode_at(&mut self, number: usize) -> Result<State, Error> {
-        PayloadsDecoder::<At<0>, At<3>, State>::decode_at(&mut self.all, number)
-    }
-
     ghost same_shapes = { refl };
+
+    fn decode_at(&mut self, number: usize) -> Result<State, Error> {
+        PayloadsDecoder::<At<0>, At<3>, State>::decode_at(&mut self.0, number)
+    }
 }
 
 impl HasEncoder for State {

@@ -53,6 +53,12 @@ impl EnumOf<2> for StateOf1 {
 impl Variants2<At<0>, At<2>, (), u32> for StateOf1 {
     ghost values = { (λ p. StateOf1.Waiting, λ p. StateOf1.Running p) };
 
+    ghost are = { (
+      is_variant refl (λ p. refl) (λ p old new h. h) (λ p old h. h) (λ p old new h. h),
+      is_variant refl (λ p. refl) (λ p old new h. h) (λ p old h. h) (λ p old new h. h),
+      refl,
+    ) };
+
     fn of_payload(payload: OneOf2<(), u32>) -> Self
         ensures { result ≡ of_one_of_2 (λ p. StateOf1.Waiting) (λ p. StateOf1.Running p) payload }
     {
@@ -61,31 +67,21 @@ impl Variants2<At<0>, At<2>, (), u32> for StateOf1 {
             OneOf2::Second(a) => StateOf1::Running(a),
         }
     }
-
-    ghost are = { (
-      is_variant refl (λ p. refl) (λ p old new h. h) (λ p old h. h) (λ p old new h. h),
-      is_variant refl (λ p. refl) (λ p old new h. h) (λ p old h. h) (λ p old new h. h),
-      refl,
-    ) };
 }
 
 type Decoders<'a> = DecodersOf2<'a, At<0>, (), u32>;
 
 /// The payloads that values of `StateOf1` are made of.
 #[derive(Drop)]
-pub struct StateOf1Payloads<'a> {
-    all: Decoders<'a>,
-}
+pub struct StateOf1Payloads<'a>(Decoders<'a>);
 
 impl<'a> HoldsPayloads for StateOf1Payloads<'a> {
-    ghost held = { payloads_in (λ d. d.all) ⟦<Decoders<'a> as HoldsPayloads>⟧.held };
+    ghost held = { payloads_in (λ d. d.0) ⟦<Decoders<'a> as HoldsPayloads>⟧.held };
 }
 
 impl<'a> NewPayloads for StateOf1Payloads<'a> {
     fn new(alloc: Global) -> Self {
-        StateOf1Payloads {
-            all: NewPayloads::new(alloc),
-        }
+        StateOf1Payloads(NewPayloads::new(alloc))
     }
 }
 
@@ -102,25 +98,18 @@ impl<'a> PayloadsView<'a, At<0>, At<2>, StateOf1> for StateOf1Payloads<'a> {
         strict: bool,
         free: &mut u128,
     ) -> Result<bool, Error> {
-        PayloadsView::<At<0>, At<2>, StateOf1>::read_at(
-            &mut self.all,
-            number,
-            input,
-            k,
-            strict,
-            free,
-        )
+        PayloadsView::<At<0>, At<2>, StateOf1>::read_at(&mut self.0, number, input, k, strict, free)
     }
 }
 
 impl<'a> PayloadsDecoder<At<0>, At<2>, StateOf1> for StateOf1Payloads<'a> {
     ghost makes_free = { ⟦<Decoders<'a> as PayloadsDecoder<At<0>, At<2>, StateOf1>>⟧.makes_free };
 
-    fn decode_at(&mut self, number: usize) -> Result<StateOf1, Error> {
-        PayloadsDecoder::<At<0>, At<2>, StateOf1>::decode_at(&mut self.all, number)
-    }
-
     ghost same_shapes = { refl };
+
+    fn decode_at(&mut self, number: usize) -> Result<StateOf1, Error> {
+        PayloadsDecoder::<At<0>, At<2>, StateOf1>::decode_at(&mut self.0, number)
+    }
 }
 
 impl<'a> HasDecoder<'a> for StateOf1 {

@@ -61,6 +61,13 @@ impl EnumOf<3> for StateOf2 {
 impl Variants3<At<0>, At<3>, (), u32, u16> for StateOf2 {
     ghost values = { (λ p. StateOf2.Waiting, λ p. StateOf2.Running p, λ p. StateOf2.Failed p) };
 
+    ghost are = { (
+      is_variant refl (λ p. refl) (λ p old new h. h) (λ p old h. h) (λ p old new h. h),
+      is_variant refl (λ p. refl) (λ p old new h. h) (λ p old h. h) (λ p old new h. h),
+      is_variant refl (λ p. refl) (λ p old new h. h) (λ p old h. h) (λ p old new h. h),
+      refl,
+    ) };
+
     fn of_payload(payload: OneOf3<(), u32, u16>) -> Self
         ensures { result ≡ of_one_of_3 (λ p. StateOf2.Waiting) (λ p. StateOf2.Running p)
             (λ p. StateOf2.Failed p) payload }
@@ -71,32 +78,21 @@ impl Variants3<At<0>, At<3>, (), u32, u16> for StateOf2 {
             OneOf3::Third(code) => StateOf2::Failed { code },
         }
     }
-
-    ghost are = { (
-      is_variant refl (λ p. refl) (λ p old new h. h) (λ p old h. h) (λ p old new h. h),
-      is_variant refl (λ p. refl) (λ p old new h. h) (λ p old h. h) (λ p old new h. h),
-      is_variant refl (λ p. refl) (λ p old new h. h) (λ p old h. h) (λ p old new h. h),
-      refl,
-    ) };
 }
 
 type Decoders<'a> = DecodersOf3<'a, At<0>, (), u32, u16>;
 
 /// The payloads that values of `StateOf2` are made of.
 #[derive(Drop)]
-pub struct StateOf2Payloads<'a> {
-    all: Decoders<'a>,
-}
+pub struct StateOf2Payloads<'a>(Decoders<'a>);
 
 impl<'a> HoldsPayloads for StateOf2Payloads<'a> {
-    ghost held = { payloads_in (λ d. d.all) ⟦<Decoders<'a> as HoldsPayloads>⟧.held };
+    ghost held = { payloads_in (λ d. d.0) ⟦<Decoders<'a> as HoldsPayloads>⟧.held };
 }
 
 impl<'a> NewPayloads for StateOf2Payloads<'a> {
     fn new(alloc: Global) -> Self {
-        StateOf2Payloads {
-            all: NewPayloads::new(alloc),
-        }
+        StateOf2Payloads(NewPayloads::new(alloc))
     }
 }
 
@@ -113,25 +109,18 @@ impl<'a> PayloadsView<'a, At<0>, At<3>, StateOf2> for StateOf2Payloads<'a> {
         strict: bool,
         free: &mut u128,
     ) -> Result<bool, Error> {
-        PayloadsView::<At<0>, At<3>, StateOf2>::read_at(
-            &mut self.all,
-            number,
-            input,
-            k,
-            strict,
-            free,
-        )
+        PayloadsView::<At<0>, At<3>, StateOf2>::read_at(&mut self.0, number, input, k, strict, free)
     }
 }
 
 impl<'a> PayloadsDecoder<At<0>, At<3>, StateOf2> for StateOf2Payloads<'a> {
     ghost makes_free = { ⟦<Decoders<'a> as PayloadsDecoder<At<0>, At<3>, StateOf2>>⟧.makes_free };
 
-    fn decode_at(&mut self, number: usize) -> Result<StateOf2, Error> {
-        PayloadsDecoder::<At<0>, At<3>, StateOf2>::decode_at(&mut self.all, number)
-    }
-
     ghost same_shapes = { refl };
+
+    fn decode_at(&mut self, number: usize) -> Result<StateOf2, Error> {
+        PayloadsDecoder::<At<0>, At<3>, StateOf2>::decode_at(&mut self.0, number)
+    }
 }
 
 impl<'a> HasDecoder<'a> for StateOf2 {

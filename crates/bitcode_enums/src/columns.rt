@@ -26,27 +26,23 @@ pub trait HoldsVariantColumns {
 ///
 /// ```rust,from:crates/bitcode_own_types/src/two.rt
 /// #[derive(Drop)]
-/// pub struct TwoColumns {
-///     all: Columns,
-/// }
+/// pub struct TwoColumns(Columns);
 ///
 /// impl HoldsVariantColumns for TwoColumns {
-///     ghost columns = { columns_in (λ c. c.all) ⟦<Columns as HoldsVariantColumns>⟧.columns };
+///     ghost columns = { columns_in (λ c. c.0) ⟦<Columns as HoldsVariantColumns>⟧.columns };
 /// }
 ///
 /// impl VariantColumns for TwoColumns {
 ///     fn new(alloc: Global) -> Self {
-///         TwoColumns {
-///             all: VariantColumns::new(alloc),
-///         }
+///         TwoColumns(VariantColumns::new(alloc))
 ///     }
 ///
 ///     fn collect_all(&mut self, out: &mut Vec<u8>) -> Result<(), Error> {
-///         self.all.collect_all(out)
+///         self.0.collect_all(out)
 ///     }
 ///
 ///     fn clear_all(&mut self) {
-///         self.all.clear_all();
+///         self.0.clear_all();
 ///     }
 /// }
 /// ```

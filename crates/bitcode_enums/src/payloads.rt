@@ -62,19 +62,15 @@ pub fn read_and_count<'a, D: NewDecoder + View<'a>>(
 ///
 /// ```rust,from:crates/bitcode_own_types/src/two.rt
 /// #[derive(Drop)]
-/// pub struct TwoPayloads<'a> {
-///     all: Decoders<'a>,
-/// }
+/// pub struct TwoPayloads<'a>(Decoders<'a>);
 ///
 /// impl<'a> HoldsPayloads for TwoPayloads<'a> {
-///     ghost held = { payloads_in (λ d. d.all) ⟦<Decoders<'a> as HoldsPayloads>⟧.held };
+///     ghost held = { payloads_in (λ d. d.0) ⟦<Decoders<'a> as HoldsPayloads>⟧.held };
 /// }
 ///
 /// impl<'a> NewPayloads for TwoPayloads<'a> {
 ///     fn new(alloc: Global) -> Self {
-///         TwoPayloads {
-///             all: NewPayloads::new(alloc),
-///         }
+///         TwoPayloads(NewPayloads::new(alloc))
 ///     }
 /// }
 ///
@@ -91,18 +87,18 @@ pub fn read_and_count<'a, D: NewDecoder + View<'a>>(
 ///         strict: bool,
 ///         free: &mut u128,
 ///     ) -> Result<bool, Error> {
-///         PayloadsView::<At<0>, At<2>, Two>::read_at(&mut self.all, number, input, k, strict, free)
+///         PayloadsView::<At<0>, At<2>, Two>::read_at(&mut self.0, number, input, k, strict, free)
 ///     }
 /// }
 ///
 /// impl<'a> PayloadsDecoder<At<0>, At<2>, Two> for TwoPayloads<'a> {
 ///     ghost makes_free = { ⟦<Decoders<'a> as PayloadsDecoder<At<0>, At<2>, Two>>⟧.makes_free };
 ///
-///     fn decode_at(&mut self, number: usize) -> Result<Two, Error> {
-///         PayloadsDecoder::<At<0>, At<2>, Two>::decode_at(&mut self.all, number)
-///     }
-///
 ///     ghost same_shapes = { refl };
+///
+///     fn decode_at(&mut self, number: usize) -> Result<Two, Error> {
+///         PayloadsDecoder::<At<0>, At<2>, Two>::decode_at(&mut self.0, number)
+///     }
 /// }
 /// ```
 pub trait HoldsPayloads {

@@ -30,7 +30,7 @@ use bitcode_tuples::fields::{Fields, FieldsEncoder};
 /// // ..
 /// impl WritesVariants<At<0>, At<2>, TwoColumns> for Two {
 ///     fn write(&self, to: &mut TwoColumns) -> Result<(), Error> {
-///         WritesVariants::<At<0>, At<2>, Columns>::write(self, &mut to.all)
+///         WritesVariants::<At<0>, At<2>, Columns>::write(self, &mut to.0)
 ///     }
 ///
 ///     ghost are_columns = { λ c. (refl, refl) };

@@ -199,6 +199,14 @@ impl Variants4<At<0>, At<4>, (), (), (String, u64), ()> for Packet {
       λ p. Packet.Logout,
     ) };
 
+    ghost are = { (
+      is_variant refl (λ p. refl) (λ p old new h. h) (λ p old h. h) (λ p old new h. h),
+      is_variant refl (λ p. refl) (λ p old new h. h) (λ p old h. h) (λ p old new h. h),
+      is_variant refl (λ p. refl) (λ p old new h. h) (λ p old h. h) (λ p old new h. h),
+      is_variant refl (λ p. refl) (λ p old new h. h) (λ p old h. h) (λ p old new h. h),
+      refl,
+    ) };
+
     fn of_payload(payload: OneOf4<(), (), (String, u64), ()>) -> Self
         ensures { result ≡ of_one_of_4 (λ p. Packet.Ping) (λ p. Packet.Pong)
             (λ p. Packet.Login p.0 p.1) (λ p. Packet.Logout) payload }
@@ -210,14 +218,6 @@ impl Variants4<At<0>, At<4>, (), (), (String, u64), ()> for Packet {
             OneOf4::Fourth(()) => Packet::Logout,
         }
     }
-
-    ghost are = { (
-      is_variant refl (λ p. refl) (λ p old new h. h) (λ p old h. h) (λ p old new h. h),
-      is_variant refl (λ p. refl) (λ p old new h. h) (λ p old h. h) (λ p old new h. h),
-      is_variant refl (λ p. refl) (λ p old new h. h) (λ p old h. h) (λ p old new h. h),
-      is_variant refl (λ p. refl) (λ p old new h. h) (λ p old h. h) (λ p old new h. h),
-      refl,
-    ) };
 }
 
 impl WritesVariants<At<0>, At<4>, EncodersOf4<At<0>, (), (), (String, u64), ()>> for Packet {
@@ -242,6 +242,14 @@ impl Variants4<At<4>, At<8>, (u32, String), String, u16, u16> for Packet {
       λ p. Packet.Leave p,
     ) };
 
+    ghost are = { (
+      is_variant refl (λ p. refl) (λ p old new h. h) (λ p old h. h) (λ p old new h. h),
+      is_variant refl (λ p. refl) (λ p old new h. h) (λ p old h. h) (λ p old new h. h),
+      is_variant refl (λ p. refl) (λ p old new h. h) (λ p old h. h) (λ p old new h. h),
+      is_variant refl (λ p. refl) (λ p old new h. h) (λ p old h. h) (λ p old new h. h),
+      refl,
+    ) };
+
     fn of_payload(payload: OneOf4<(u32, String), String, u16, u16>) -> Self
         ensures { result ≡ of_one_of_4 (λ p. Packet.Welcome p.0 p.1) (λ p. Packet.Refused p)
             (λ p. Packet.Join p) (λ p. Packet.Leave p) payload }
@@ -253,14 +261,6 @@ impl Variants4<At<4>, At<8>, (u32, String), String, u16, u16> for Packet {
             OneOf4::Fourth(a) => Packet::Leave(a),
         }
     }
-
-    ghost are = { (
-      is_variant refl (λ p. refl) (λ p old new h. h) (λ p old h. h) (λ p old new h. h),
-      is_variant refl (λ p. refl) (λ p old new h. h) (λ p old h. h) (λ p old new h. h),
-      is_variant refl (λ p. refl) (λ p old new h. h) (λ p old h. h) (λ p old new h. h),
-      is_variant refl (λ p. refl) (λ p old new h. h) (λ p old h. h) (λ p old new h. h),
-      refl,
-    ) };
 }
 
 type ColumnsOf4To7 = EncodersOf4<At<4>, (u32, String), String, u16, u16>;
@@ -290,6 +290,14 @@ impl Variants4<At<8>, At<12>, String, (u32, String), (i32, i32), i16> for Packet
       λ p. Packet.Turn p,
     ) };
 
+    ghost are = { (
+      is_variant refl (λ p. refl) (λ p old new h. h) (λ p old h. h) (λ p old new h. h),
+      is_variant refl (λ p. refl) (λ p old new h. h) (λ p old h. h) (λ p old new h. h),
+      is_variant refl (λ p. refl) (λ p old new h. h) (λ p old h. h) (λ p old new h. h),
+      is_variant refl (λ p. refl) (λ p old new h. h) (λ p old h. h) (λ p old new h. h),
+      refl,
+    ) };
+
     fn of_payload(payload: OneOf4<String, (u32, String), (i32, i32), i16>) -> Self
         ensures { result ≡ of_one_of_4 (λ p. Packet.Say p) (λ p. Packet.Whisper p.0 p.1)
             (λ p. Packet.Move p.0 p.1) (λ p. Packet.Turn p) payload }
@@ -301,14 +309,6 @@ impl Variants4<At<8>, At<12>, String, (u32, String), (i32, i32), i16> for Packet
             OneOf4::Fourth(a) => Packet::Turn(a),
         }
     }
-
-    ghost are = { (
-      is_variant refl (λ p. refl) (λ p old new h. h) (λ p old h. h) (λ p old new h. h),
-      is_variant refl (λ p. refl) (λ p old new h. h) (λ p old h. h) (λ p old new h. h),
-      is_variant refl (λ p. refl) (λ p old new h. h) (λ p old h. h) (λ p old new h. h),
-      is_variant refl (λ p. refl) (λ p old new h. h) (λ p old h. h) (λ p old new h. h),
-      refl,
-    ) };
 }
 
 type ColumnsOf8To11 = EncodersOf4<At<8>, String, (u32, String), (i32, i32), i16>;
@@ -338,6 +338,14 @@ impl Variants4<At<12>, At<16>, u32, (u32, u16), u16, (u64, u16)> for Packet {
       λ p. Packet.Take p.0 p.1,
     ) };
 
+    ghost are = { (
+      is_variant refl (λ p. refl) (λ p old new h. h) (λ p old h. h) (λ p old new h. h),
+      is_variant refl (λ p. refl) (λ p old new h. h) (λ p old h. h) (λ p old new h. h),
+      is_variant refl (λ p. refl) (λ p old new h. h) (λ p old h. h) (λ p old new h. h),
+      is_variant refl (λ p. refl) (λ p old new h. h) (λ p old h. h) (λ p old new h. h),
+      refl,
+    ) };
+
     fn of_payload(payload: OneOf4<u32, (u32, u16), u16, (u64, u16)>) -> Self
         ensures { result ≡ of_one_of_4 (λ p. Packet.Attack p) (λ p. Packet.Hit p.0 p.1)
             (λ p. Packet.Heal p) (λ p. Packet.Take p.0 p.1) payload }
@@ -349,14 +357,6 @@ impl Variants4<At<12>, At<16>, u32, (u32, u16), u16, (u64, u16)> for Packet {
             OneOf4::Fourth((a, b)) => Packet::Take(a, b),
         }
     }
-
-    ghost are = { (
-      is_variant refl (λ p. refl) (λ p old new h. h) (λ p old h. h) (λ p old new h. h),
-      is_variant refl (λ p. refl) (λ p old new h. h) (λ p old h. h) (λ p old new h. h),
-      is_variant refl (λ p. refl) (λ p old new h. h) (λ p old h. h) (λ p old new h. h),
-      is_variant refl (λ p. refl) (λ p old new h. h) (λ p old h. h) (λ p old new h. h),
-      refl,
-    ) };
 }
 
 type ColumnsOf12To15 = EncodersOf4<At<12>, u32, (u32, u16), u16, (u64, u16)>;
@@ -386,6 +386,14 @@ impl Variants4<At<16>, At<20>, u64, Vec<u16>, Option<u32>, ()> for Packet {
       λ p. Packet.Quit,
     ) };
 
+    ghost are = { (
+      is_variant refl (λ p. refl) (λ p old new h. h) (λ p old h. h) (λ p old new h. h),
+      is_variant refl (λ p. refl) (λ p old new h. h) (λ p old h. h) (λ p old new h. h),
+      is_variant refl (λ p. refl) (λ p old new h. h) (λ p old h. h) (λ p old new h. h),
+      is_variant refl (λ p. refl) (λ p old new h. h) (λ p old h. h) (λ p old new h. h),
+      refl,
+    ) };
+
     fn of_payload(payload: OneOf4<u64, Vec<u16>, Option<u32>, ()>) -> Self
         ensures { result ≡ of_one_of_4 (λ p. Packet.Drop p) (λ p. Packet.Inventory p)
             (λ p. Packet.Score p) (λ p. Packet.Quit) payload }
@@ -397,14 +405,6 @@ impl Variants4<At<16>, At<20>, u64, Vec<u16>, Option<u32>, ()> for Packet {
             OneOf4::Fourth(()) => Packet::Quit,
         }
     }
-
-    ghost are = { (
-      is_variant refl (λ p. refl) (λ p old new h. h) (λ p old h. h) (λ p old new h. h),
-      is_variant refl (λ p. refl) (λ p old new h. h) (λ p old h. h) (λ p old new h. h),
-      is_variant refl (λ p. refl) (λ p old new h. h) (λ p old h. h) (λ p old new h. h),
-      is_variant refl (λ p. refl) (λ p old new h. h) (λ p old h. h) (λ p old new h. h),
-      refl,
-    ) };
 }
 
 type ColumnsOf16To19 = EncodersOf4<At<16>, u64, Vec<u16>, Option<u32>, ()>;
@@ -445,33 +445,29 @@ type Decoders<'a> = TwoGroups<
 
 /// The columns of the payloads of `Packet`.
 #[derive(Drop)]
-pub struct PacketColumns {
-    all: Columns,
-}
+pub struct PacketColumns(Columns);
 
 impl HoldsVariantColumns for PacketColumns {
-    ghost columns = { columns_in (λ c. c.all) ⟦<Columns as HoldsVariantColumns>⟧.columns };
+    ghost columns = { columns_in (λ c. c.0) ⟦<Columns as HoldsVariantColumns>⟧.columns };
 }
 
 impl VariantColumns for PacketColumns {
     fn new(alloc: Global) -> Self {
-        PacketColumns {
-            all: VariantColumns::new(alloc),
-        }
+        PacketColumns(VariantColumns::new(alloc))
     }
 
     fn collect_all(&mut self, out: &mut Vec<u8>) -> Result<(), Error> {
-        self.all.collect_all(out)
+        self.0.collect_all(out)
     }
 
     fn clear_all(&mut self) {
-        self.all.clear_all();
+        self.0.clear_all();
     }
 }
 
 impl WritesVariants<At<0>, At<20>, PacketColumns> for Packet {
     fn write(&self, to: &mut PacketColumns) -> Result<(), Error> {
-        WritesVariants::<At<0>, At<20>, Columns>::write(self, &mut to.all)
+        WritesVariants::<At<0>, At<20>, Columns>::write(self, &mut to.0)
     }
 
     ghost are_columns = { λ c. (refl, refl) };
@@ -481,19 +477,15 @@ type Decoders0To3<'a> = NotCompared<DecodersOf4<'a, At<0>, (), (), (String, u64)
 
 /// The payloads of the variants 0 to 3 of `Packet`.
 #[derive(Drop)]
-pub struct PacketPayloads0To3<'a> {
-    all: Decoders0To3<'a>,
-}
+pub struct PacketPayloads0To3<'a>(Decoders0To3<'a>);
 
 impl<'a> HoldsPayloads for PacketPayloads0To3<'a> {
-    ghost held = { payloads_in (λ d. d.all) ⟦<Decoders0To3<'a> as HoldsPayloads>⟧.held };
+    ghost held = { payloads_in (λ d. d.0) ⟦<Decoders0To3<'a> as HoldsPayloads>⟧.held };
 }
 
 impl<'a> NewPayloads for PacketPayloads0To3<'a> {
     fn new(alloc: Global) -> Self {
-        PacketPayloads0To3 {
-            all: NewPayloads::new(alloc),
-        }
+        PacketPayloads0To3(NewPayloads::new(alloc))
     }
 }
 
@@ -510,37 +502,33 @@ impl<'a> PayloadsView<'a, At<0>, At<4>, Packet> for PacketPayloads0To3<'a> {
         strict: bool,
         free: &mut u128,
     ) -> Result<bool, Error> {
-        PayloadsView::<At<0>, At<4>, Packet>::read_at(&mut self.all, number, input, k, strict, free)
+        PayloadsView::<At<0>, At<4>, Packet>::read_at(&mut self.0, number, input, k, strict, free)
     }
 }
 
 impl<'a> PayloadsDecoder<At<0>, At<4>, Packet> for PacketPayloads0To3<'a> {
     ghost makes_free = { ⟦<Decoders0To3<'a> as PayloadsDecoder<At<0>, At<4>, Packet>>⟧.makes_free };
 
-    fn decode_at(&mut self, number: usize) -> Result<Packet, Error> {
-        PayloadsDecoder::<At<0>, At<4>, Packet>::decode_at(&mut self.all, number)
-    }
-
     ghost same_shapes = { refl };
+
+    fn decode_at(&mut self, number: usize) -> Result<Packet, Error> {
+        PayloadsDecoder::<At<0>, At<4>, Packet>::decode_at(&mut self.0, number)
+    }
 }
 
 type Decoders4To7<'a> = NotCompared<DecodersOf4<'a, At<4>, (u32, String), String, u16, u16>>;
 
 /// The payloads of the variants 4 to 7 of `Packet`.
 #[derive(Drop)]
-pub struct PacketPayloads4To7<'a> {
-    all: Decoders4To7<'a>,
-}
+pub struct PacketPayloads4To7<'a>(Decoders4To7<'a>);
 
 impl<'a> HoldsPayloads for PacketPayloads4To7<'a> {
-    ghost held = { payloads_in (λ d. d.all) ⟦<Decoders4To7<'a> as HoldsPayloads>⟧.held };
+    ghost held = { payloads_in (λ d. d.0) ⟦<Decoders4To7<'a> as HoldsPayloads>⟧.held };
 }
 
 impl<'a> NewPayloads for PacketPayloads4To7<'a> {
     fn new(alloc: Global) -> Self {
-        PacketPayloads4To7 {
-            all: NewPayloads::new(alloc),
-        }
+        PacketPayloads4To7(NewPayloads::new(alloc))
     }
 }
 
@@ -557,18 +545,18 @@ impl<'a> PayloadsView<'a, At<4>, At<8>, Packet> for PacketPayloads4To7<'a> {
         strict: bool,
         free: &mut u128,
     ) -> Result<bool, Error> {
-        PayloadsView::<At<4>, At<8>, Packet>::read_at(&mut self.all, number, input, k, strict, free)
+        PayloadsView::<At<4>, At<8>, Packet>::read_at(&mut self.0, number, input, k, strict, free)
     }
 }
 
 impl<'a> PayloadsDecoder<At<4>, At<8>, Packet> for PacketPayloads4To7<'a> {
     ghost makes_free = { ⟦<Decoders4To7<'a> as PayloadsDecoder<At<4>, At<8>, Packet>>⟧.makes_free };
 
-    fn decode_at(&mut self, number: usize) -> Result<Packet, Error> {
-        PayloadsDecoder::<At<4>, At<8>, Packet>::decode_at(&mut self.all, number)
-    }
-
     ghost same_shapes = { refl };
+
+    fn decode_at(&mut self, number: usize) -> Result<Packet, Error> {
+        PayloadsDecoder::<At<4>, At<8>, Packet>::decode_at(&mut self.0, number)
+    }
 }
 
 type Decoders8To11<'a> = NotCompared<
@@ -577,19 +565,15 @@ type Decoders8To11<'a> = NotCompared<
 
 /// The payloads of the variants 8 to 11 of `Packet`.
 #[derive(Drop)]
-pub struct PacketPayloads8To11<'a> {
-    all: Decoders8To11<'a>,
-}
+pub struct PacketPayloads8To11<'a>(Decoders8To11<'a>);
 
 impl<'a> HoldsPayloads for PacketPayloads8To11<'a> {
-    ghost held = { payloads_in (λ d. d.all) ⟦<Decoders8To11<'a> as HoldsPayloads>⟧.held };
+    ghost held = { payloads_in (λ d. d.0) ⟦<Decoders8To11<'a> as HoldsPayloads>⟧.held };
 }
 
 impl<'a> NewPayloads for PacketPayloads8To11<'a> {
     fn new(alloc: Global) -> Self {
-        PacketPayloads8To11 {
-            all: NewPayloads::new(alloc),
-        }
+        PacketPayloads8To11(NewPayloads::new(alloc))
     }
 }
 
@@ -606,44 +590,33 @@ impl<'a> PayloadsView<'a, At<8>, At<12>, Packet> for PacketPayloads8To11<'a> {
         strict: bool,
         free: &mut u128,
     ) -> Result<bool, Error> {
-        PayloadsView::<At<8>, At<12>, Packet>::read_at(
-            &mut self.all,
-            number,
-            input,
-            k,
-            strict,
-            free,
-        )
+        PayloadsView::<At<8>, At<12>, Packet>::read_at(&mut self.0, number, input, k, strict, free)
     }
 }
 
 impl<'a> PayloadsDecoder<At<8>, At<12>, Packet> for PacketPayloads8To11<'a> {
     ghost makes_free = { ⟦<Decoders8To11<'a> as PayloadsDecoder<At<8>, At<12>, Packet>>⟧.makes_free };
 
-    fn decode_at(&mut self, number: usize) -> Result<Packet, Error> {
-        PayloadsDecoder::<At<8>, At<12>, Packet>::decode_at(&mut self.all, number)
-    }
-
     ghost same_shapes = { refl };
+
+    fn decode_at(&mut self, number: usize) -> Result<Packet, Error> {
+        PayloadsDecoder::<At<8>, At<12>, Packet>::decode_at(&mut self.0, number)
+    }
 }
 
 type Decoders12To15<'a> = NotCompared<DecodersOf4<'a, At<12>, u32, (u32, u16), u16, (u64, u16)>>;
 
 /// The payloads of the variants 12 to 15 of `Packet`.
 #[derive(Drop)]
-pub struct PacketPayloads12To15<'a> {
-    all: Decoders12To15<'a>,
-}
+pub struct PacketPayloads12To15<'a>(Decoders12To15<'a>);
 
 impl<'a> HoldsPayloads for PacketPayloads12To15<'a> {
-    ghost held = { payloads_in (λ d. d.all) ⟦<Decoders12To15<'a> as HoldsPayloads>⟧.held };
+    ghost held = { payloads_in (λ d. d.0) ⟦<Decoders12To15<'a> as HoldsPayloads>⟧.held };
 }
 
 impl<'a> NewPayloads for PacketPayloads12To15<'a> {
     fn new(alloc: Global) -> Self {
-        PacketPayloads12To15 {
-            all: NewPayloads::new(alloc),
-        }
+        PacketPayloads12To15(NewPayloads::new(alloc))
     }
 }
 
@@ -660,44 +633,33 @@ impl<'a> PayloadsView<'a, At<12>, At<16>, Packet> for PacketPayloads12To15<'a> {
         strict: bool,
         free: &mut u128,
     ) -> Result<bool, Error> {
-        PayloadsView::<At<12>, At<16>, Packet>::read_at(
-            &mut self.all,
-            number,
-            input,
-            k,
-            strict,
-            free,
-        )
+        PayloadsView::<At<12>, At<16>, Packet>::read_at(&mut self.0, number, input, k, strict, free)
     }
 }
 
 impl<'a> PayloadsDecoder<At<12>, At<16>, Packet> for PacketPayloads12To15<'a> {
     ghost makes_free = { ⟦<Decoders12To15<'a> as PayloadsDecoder<At<12>, At<16>, Packet>>⟧.makes_free };
 
-    fn decode_at(&mut self, number: usize) -> Result<Packet, Error> {
-        PayloadsDecoder::<At<12>, At<16>, Packet>::decode_at(&mut self.all, number)
-    }
-
     ghost same_shapes = { refl };
+
+    fn decode_at(&mut self, number: usize) -> Result<Packet, Error> {
+        PayloadsDecoder::<At<12>, At<16>, Packet>::decode_at(&mut self.0, number)
+    }
 }
 
 type Decoders16To19<'a> = NotCompared<DecodersOf4<'a, At<16>, u64, Vec<u16>, Option<u32>, ()>>;
 
 /// The payloads of the variants 16 to 19 of `Packet`.
 #[derive(Drop)]
-pub struct PacketPayloads16To19<'a> {
-    all: Decoders16To19<'a>,
-}
+pub struct PacketPayloads16To19<'a>(Decoders16To19<'a>);
 
 impl<'a> HoldsPayloads for PacketPayloads16To19<'a> {
-    ghost held = { payloads_in (λ d. d.all) ⟦<Decoders16To19<'a> as HoldsPayloads>⟧.held };
+    ghost held = { payloads_in (λ d. d.0) ⟦<Decoders16To19<'a> as HoldsPayloads>⟧.held };
 }
 
 impl<'a> NewPayloads for PacketPayloads16To19<'a> {
     fn new(alloc: Global) -> Self {
-        PacketPayloads16To19 {
-            all: NewPayloads::new(alloc),
-        }
+        PacketPayloads16To19(NewPayloads::new(alloc))
     }
 }
 
@@ -714,25 +676,18 @@ impl<'a> PayloadsView<'a, At<16>, At<20>, Packet> for PacketPayloads16To19<'a> {
         strict: bool,
         free: &mut u128,
     ) -> Result<bool, Error> {
-        PayloadsView::<At<16>, At<20>, Packet>::read_at(
-            &mut self.all,
-            number,
-            input,
-            k,
-            strict,
-            free,
-        )
+        PayloadsView::<At<16>, At<20>, Packet>::read_at(&mut self.0, number, input, k, strict, free)
     }
 }
 
 impl<'a> PayloadsDecoder<At<16>, At<20>, Packet> for PacketPayloads16To19<'a> {
     ghost makes_free = { ⟦<Decoders16To19<'a> as PayloadsDecoder<At<16>, At<20>, Packet>>⟧.makes_free };
 
-    fn decode_at(&mut self, number: usize) -> Result<Packet, Error> {
-        PayloadsDecoder::<At<16>, At<20>, Packet>::decode_at(&mut self.all, number)
-    }
-
     ghost same_shapes = { refl };
+
+    fn decode_at(&mut self, number: usize) -> Result<Packet, Error> {
+        PayloadsDecoder::<At<16>, At<20>, Packet>::decode_at(&mut self.0, number)
+    }
 }
 
 impl HasEncoder for Packet {

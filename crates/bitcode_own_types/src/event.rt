@@ -77,6 +77,14 @@ impl Variants4<At<0>, At<4>, (), (u64, String), (u64, (i8, i8)), Option<u16>> fo
       λ p. Event.Quit p,
     ) };
 
+    ghost are = { (
+      is_variant refl (λ p. refl) (λ p old new h. h) (λ p old h. h) (λ p old new h. h),
+      is_variant refl (λ p. refl) (λ p old new h. h) (λ p old h. h) (λ p old new h. h),
+      is_variant refl (λ p. refl) (λ p old new h. h) (λ p old h. h) (λ p old new h. h),
+      is_variant refl (λ p. refl) (λ p old new h. h) (λ p old h. h) (λ p old new h. h),
+      refl,
+    ) };
+
     fn of_payload(payload: OneOf4<(), (u64, String), (u64, (i8, i8)), Option<u16>>) -> Self
         ensures { result ≡ of_one_of_4 (λ p. Event.Tick) (λ p. Event.Spawn p.0 p.1)
             (λ p. Event.Move p.0 p.1.0 p.1.1) (λ p. Event.Quit p) payload }
@@ -88,14 +96,6 @@ impl Variants4<At<0>, At<4>, (), (u64, String), (u64, (i8, i8)), Option<u16>> fo
             OneOf4::Fourth(a) => Event::Quit(a),
         }
     }
-
-    ghost are = { (
-      is_variant refl (λ p. refl) (λ p old new h. h) (λ p old h. h) (λ p old new h. h),
-      is_variant refl (λ p. refl) (λ p old new h. h) (λ p old h. h) (λ p old new h. h),
-      is_variant refl (λ p. refl) (λ p old new h. h) (λ p old h. h) (λ p old new h. h),
-      is_variant refl (λ p. refl) (λ p old new h. h) (λ p old h. h) (λ p old new h. h),
-      refl,
-    ) };
 }
 
 type Columns = EncodersOf4<At<0>, (), (u64, String), (u64, (i8, i8)), Option<u16>>;
@@ -120,33 +120,29 @@ type Decoders<'a> = DecodersOf4<'a, At<0>, (), (u64, String), (u64, (i8, i8)), O
 
 /// The columns of the payloads of `Event`.
 #[derive(Drop)]
-pub struct EventColumns {
-    all: Columns,
-}
+pub struct EventColumns(Columns);
 
 impl HoldsVariantColumns for EventColumns {
-    ghost columns = { columns_in (λ c. c.all) ⟦<Columns as HoldsVariantColumns>⟧.columns };
+    ghost columns = { columns_in (λ c. c.0) ⟦<Columns as HoldsVariantColumns>⟧.columns };
 }
 
 impl VariantColumns for EventColumns {
     fn new(alloc: Global) -> Self {
-        EventColumns {
-            all: VariantColumns::new(alloc),
-        }
+        EventColumns(VariantColumns::new(alloc))
     }
 
     fn collect_all(&mut self, out: &mut Vec<u8>) -> Result<(), Error> {
-        self.all.collect_all(out)
+        self.0.collect_all(out)
     }
 
     fn clear_all(&mut self) {
-        self.all.clear_all();
+        self.0.clear_all();
     }
 }
 
 impl WritesVariants<At<0>, At<4>, EventColumns> for Event {
     fn write(&self, to: &mut EventColumns) -> Result<(), Error> {
-        WritesVariants::<At<0>, At<4>, Columns>::write(self, &mut to.all)
+        WritesVariants::<At<0>, At<4>, Columns>::write(self, &mut to.0)
     }
 
     ghost are_columns = { λ c. (refl, refl) };
@@ -154,19 +150,15 @@ impl WritesVariants<At<0>, At<4>, EventColumns> for Event {
 
 /// The payloads that values of `Event` are made of.
 #[derive(Drop)]
-pub struct EventPayloads<'a> {
-    all: Decoders<'a>,
-}
+pub struct EventPayloads<'a>(Decoders<'a>);
 
 impl<'a> HoldsPayloads for EventPayloads<'a> {
-    ghost held = { payloads_in (λ d. d.all) ⟦<Decoders<'a> as HoldsPayloads>⟧.held };
+    ghost held = { payloads_in (λ d. d.0) ⟦<Decoders<'a> as HoldsPayloads>⟧.held };
 }
 
 impl<'a> NewPayloads for EventPayloads<'a> {
     fn new(alloc: Global) -> Self {
-        EventPayloads {
-            all: NewPayloads::new(alloc),
-        }
+        EventPayloads(NewPayloads::new(alloc))
     }
 }
 
@@ -183,18 +175,18 @@ impl<'a> PayloadsView<'a, At<0>, At<4>, Event> for EventPayloads<'a> {
         strict: bool,
         free: &mut u128,
     ) -> Result<bool, Error> {
-        PayloadsView::<At<0>, At<4>, Event>::read_at(&mut self.all, number, input, k, strict, free)
+        PayloadsView::<At<0>, At<4>, Event>::read_at(&mut self.0, number, input, k, strict, free)
     }
 }
 
 impl<'a> PayloadsDecoder<At<0>, At<4>, Event> for EventPayloads<'a> {
     ghost makes_free = { ⟦<Decoders<'a> as PayloadsDecoder<At<0>, At<4>, Event>>⟧.makes_free };
 
-    fn decode_at(&mut self, number: usize) -> Result<Event, Error> {
-        PayloadsDecoder::<At<0>, At<4>, Event>::decode_at(&mut self.all, number)
-    }
-
     ghost same_shapes = { refl };
+
+    fn decode_at(&mut self, number: usize) -> Result<Event, Error> {
+        PayloadsDecoder::<At<0>, At<4>, Event>::decode_at(&mut self.0, number)
+    }
 }
 
 impl HasEncoder for Event {

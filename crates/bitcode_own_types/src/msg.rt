@@ -57,6 +57,13 @@ impl<T: Shaped> EnumOf<3> for Msg<T> {
 impl<T: Shaped> Variants3<At<0>, At<3>, T, Vec<T>, ()> for Msg<T> {
     ghost values = { (λ p. Msg.One p, λ p. Msg.Many p, λ p. Msg.Nothing) };
 
+    ghost are = { (
+      is_variant refl (λ p. refl) (λ p old new h. h) (λ p old h. h) (λ p old new h. h),
+      is_variant refl (λ p. refl) (λ p old new h. h) (λ p old h. h) (λ p old new h. h),
+      is_variant refl (λ p. refl) (λ p old new h. h) (λ p old h. h) (λ p old new h. h),
+      refl,
+    ) };
+
     fn of_payload(payload: OneOf3<T, Vec<T>, ()>) -> Self
         ensures { result ≡ of_one_of_3 (λ p. Msg.One p) (λ p. Msg.Many p) (λ p. Msg.Nothing)
             payload }
@@ -67,13 +74,6 @@ impl<T: Shaped> Variants3<At<0>, At<3>, T, Vec<T>, ()> for Msg<T> {
             OneOf3::Third(()) => Msg::Nothing,
         }
     }
-
-    ghost are = { (
-      is_variant refl (λ p. refl) (λ p old new h. h) (λ p old h. h) (λ p old new h. h),
-      is_variant refl (λ p. refl) (λ p old new h. h) (λ p old h. h) (λ p old new h. h),
-      is_variant refl (λ p. refl) (λ p old new h. h) (λ p old h. h) (λ p old new h. h),
-      refl,
-    ) };
 }
 
 impl<
@@ -99,29 +99,25 @@ impl<
 
 /// The columns of the payloads of `Msg`, by their encoders.
 #[derive(Drop)]
-pub struct MsgColumns<E1, E2, E3> {
-    all: Encoders3<At<0>, E1, E2, E3>,
-}
+pub struct MsgColumns<E1, E2, E3>(Encoders3<At<0>, E1, E2, E3>);
 
 impl<E1: HoldsColumns, E2: HoldsColumns, E3: HoldsColumns> HoldsVariantColumns
     for MsgColumns<E1, E2, E3> {
-    ghost columns = { columns_in (λ c. c.all)
+    ghost columns = { columns_in (λ c. c.0)
         ⟦<Encoders3<At<0>, E1, E2, E3> as HoldsVariantColumns>⟧.columns };
 }
 
 impl<E1: Buffer, E2: Buffer, E3: Buffer> VariantColumns for MsgColumns<E1, E2, E3> {
     fn new(alloc: Global) -> Self {
-        MsgColumns {
-            all: VariantColumns::new(alloc),
-        }
+        MsgColumns(VariantColumns::new(alloc))
     }
 
     fn collect_all(&mut self, out: &mut Vec<u8>) -> Result<(), Error> {
-        self.all.collect_all(out)
+        self.0.collect_all(out)
     }
 
     fn clear_all(&mut self) {
-        self.all.clear_all();
+        self.0.clear_all();
     }
 }
 
@@ -132,34 +128,30 @@ impl<
     E3: Buffer + Encoder<()>,
 > WritesVariants<At<0>, At<3>, MsgColumns<E1, E2, E3>> for Msg<T> {
     fn write(&self, to: &mut MsgColumns<E1, E2, E3>) -> Result<(), Error> {
-        WritesVariants::<At<0>, At<3>, Encoders3<At<0>, E1, E2, E3>>::write(self, &mut to.all)
+        WritesVariants::<At<0>, At<3>, Encoders3<At<0>, E1, E2, E3>>::write(self, &mut to.0)
     }
 
     ghost are_columns = { λ c. (
       refl,
-      columns_and (E1.of_shape c.all.first)
-          (columns_and (E2.of_shape c.all.second) (columns_and (E3.of_shape c.all.third) refl)),
+      columns_and (E1.of_shape c.0.first)
+          (columns_and (E2.of_shape c.0.second) (columns_and (E3.of_shape c.0.third) refl)),
     ) };
 }
 
 /// The payloads that values of `Msg` are made of, by their decoders.
 #[derive(Drop)]
-pub struct MsgPayloads<V1, D1, D2, D3> {
-    all: Decoders3<At<0>, V1, D1, D2, D3>,
-}
+pub struct MsgPayloads<V1, D1, D2, D3>(Decoders3<At<0>, V1, D1, D2, D3>);
 
 impl<V1, D1: HoldsData, D2: HoldsData, D3: HoldsData> HoldsPayloads
     for MsgPayloads<V1, D1, D2, D3> {
-    ghost held = { payloads_in (λ d. d.all)
+    ghost held = { payloads_in (λ d. d.0)
         ⟦<Decoders3<At<0>, V1, D1, D2, D3> as HoldsPayloads>⟧.held };
 }
 
 impl<V1, D1: NewDecoder, D2: NewDecoder, D3: NewDecoder> NewPayloads
     for MsgPayloads<V1, D1, D2, D3> {
     fn new(alloc: Global) -> Self {
-        MsgPayloads {
-            all: NewPayloads::new(alloc),
-        }
+        MsgPayloads(NewPayloads::new(alloc))
     }
 }
 
@@ -183,7 +175,7 @@ impl<
         strict: bool,
         free: &mut u128,
     ) -> Result<bool, Error> {
-        PayloadsView::<At<0>, At<3>, Msg<T>>::read_at(&mut self.all, number, input, k, strict, free)
+        PayloadsView::<At<0>, At<3>, Msg<T>>::read_at(&mut self.0, number, input, k, strict, free)
     }
 }
 
@@ -194,12 +186,12 @@ impl<T: Shaped, D1: Decoder<T>, D2: Decoder<Vec<T>>, D3: Decoder<()>> PayloadsDe
 > for MsgPayloads<(T, Vec<T>, ()), D1, D2, D3> {
     ghost makes_free = { D1.makes_free && D2.makes_free && D3.makes_free };
 
-    fn decode_at(&mut self, number: usize) -> Result<Msg<T>, Error> {
-        PayloadsDecoder::<At<0>, At<3>, Msg<T>>::decode_at(&mut self.all, number)
-    }
-
     ghost same_shapes = { shapes_and D1.same_shape
         (shapes_and D2.same_shape (shapes_and D3.same_shape refl)) };
+
+    fn decode_at(&mut self, number: usize) -> Result<Msg<T>, Error> {
+        PayloadsDecoder::<At<0>, At<3>, Msg<T>>::decode_at(&mut self.0, number)
+    }
 }
 
 type Columns<T> = MsgColumns<

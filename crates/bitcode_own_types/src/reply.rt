@@ -111,6 +111,14 @@ impl<'a> Variants4<At<0>, At<4>, (), &'a str, (Vec<&'a str>, Option<u32>), BTree
       λ p. Reply.Counts p,
     ) };
 
+    ghost are = { (
+      is_variant refl (λ p. refl) (λ p old new h. h) (λ p old h. h) (λ p old new h. h),
+      is_variant refl (λ p. refl) (λ p old new h. h) (λ p old h. h) (λ p old new h. h),
+      is_variant refl (λ p. refl) (λ p old new h. h) (λ p old h. h) (λ p old new h. h),
+      is_variant refl (λ p. refl) (λ p old new h. h) (λ p old h. h) (λ p old new h. h),
+      refl,
+    ) };
+
     fn of_payload(
         payload: OneOf4<(), &'a str, (Vec<&'a str>, Option<u32>), BTreeMap<u32, String>>,
     ) -> Self
@@ -124,14 +132,6 @@ impl<'a> Variants4<At<0>, At<4>, (), &'a str, (Vec<&'a str>, Option<u32>), BTree
             OneOf4::Fourth(a) => Reply::Counts(a),
         }
     }
-
-    ghost are = { (
-      is_variant refl (λ p. refl) (λ p old new h. h) (λ p old h. h) (λ p old new h. h),
-      is_variant refl (λ p. refl) (λ p old new h. h) (λ p old h. h) (λ p old new h. h),
-      is_variant refl (λ p. refl) (λ p old new h. h) (λ p old h. h) (λ p old new h. h),
-      is_variant refl (λ p. refl) (λ p old new h. h) (λ p old h. h) (λ p old new h. h),
-      refl,
-    ) };
 }
 
 type ColumnsOf0To3 = EncodersOf4<
@@ -168,6 +168,14 @@ impl<'a> Variants4<At<4>, At<8>, BTreeSet<u16>, Message<'a>, (HashMap<u16, Strin
       λ p. Reply.Gone,
     ) };
 
+    ghost are = { (
+      is_variant refl (λ p. refl) (λ p old new h. h) (λ p old h. h) (λ p old new h. h),
+      is_variant refl (λ p. refl) (λ p old new h. h) (λ p old h. h) (λ p old new h. h),
+      is_variant refl (λ p. refl) (λ p old new h. h) (λ p old h. h) (λ p old new h. h),
+      is_variant refl (λ p. refl) (λ p old new h. h) (λ p old h. h) (λ p old new h. h),
+      refl,
+    ) };
+
     fn of_payload(
         payload: OneOf4<BTreeSet<u16>, Message<'a>, (HashMap<u16, String>, u64), ()>,
     ) -> Self
@@ -181,14 +189,6 @@ impl<'a> Variants4<At<4>, At<8>, BTreeSet<u16>, Message<'a>, (HashMap<u16, Strin
             OneOf4::Fourth(()) => Reply::Gone,
         }
     }
-
-    ghost are = { (
-      is_variant refl (λ p. refl) (λ p old new h. h) (λ p old h. h) (λ p old new h. h),
-      is_variant refl (λ p. refl) (λ p old new h. h) (λ p old h. h) (λ p old new h. h),
-      is_variant refl (λ p. refl) (λ p old new h. h) (λ p old h. h) (λ p old new h. h),
-      is_variant refl (λ p. refl) (λ p old new h. h) (λ p old h. h) (λ p old new h. h),
-      refl,
-    ) };
 }
 
 type ColumnsOf4To7 = EncodersOf4<
@@ -230,33 +230,29 @@ type Decoders<'a> = TwoGroups<
 
 /// The columns of the payloads of `Reply`.
 #[derive(Drop)]
-pub struct ReplyColumns {
-    all: Columns,
-}
+pub struct ReplyColumns(Columns);
 
 impl HoldsVariantColumns for ReplyColumns {
-    ghost columns = { columns_in (λ c. c.all) ⟦<Columns as HoldsVariantColumns>⟧.columns };
+    ghost columns = { columns_in (λ c. c.0) ⟦<Columns as HoldsVariantColumns>⟧.columns };
 }
 
 impl VariantColumns for ReplyColumns {
     fn new(alloc: Global) -> Self {
-        ReplyColumns {
-            all: VariantColumns::new(alloc),
-        }
+        ReplyColumns(VariantColumns::new(alloc))
     }
 
     fn collect_all(&mut self, out: &mut Vec<u8>) -> Result<(), Error> {
-        self.all.collect_all(out)
+        self.0.collect_all(out)
     }
 
     fn clear_all(&mut self) {
-        self.all.clear_all();
+        self.0.clear_all();
     }
 }
 
 impl<'a> WritesVariants<At<0>, At<8>, ReplyColumns> for Reply<'a> {
     fn write(&self, to: &mut ReplyColumns) -> Result<(), Error> {
-        WritesVariants::<At<0>, At<8>, Columns>::write(self, &mut to.all)
+        WritesVariants::<At<0>, At<8>, Columns>::write(self, &mut to.0)
     }
 
     ghost are_columns = { λ c. (refl, refl) };
@@ -264,19 +260,15 @@ impl<'a> WritesVariants<At<0>, At<8>, ReplyColumns> for Reply<'a> {
 
 /// The payloads that values of `Reply` are made of.
 #[derive(Drop)]
-pub struct ReplyPayloads<'a> {
-    all: Decoders<'a>,
-}
+pub struct ReplyPayloads<'a>(Decoders<'a>);
 
 impl<'a> HoldsPayloads for ReplyPayloads<'a> {
-    ghost held = { payloads_in (λ d. d.all) ⟦<Decoders<'a> as HoldsPayloads>⟧.held };
+    ghost held = { payloads_in (λ d. d.0) ⟦<Decoders<'a> as HoldsPayloads>⟧.held };
 }
 
 impl<'a> NewPayloads for ReplyPayloads<'a> {
     fn new(alloc: Global) -> Self {
-        ReplyPayloads {
-            all: NewPayloads::new(alloc),
-        }
+        ReplyPayloads(NewPayloads::new(alloc))
     }
 }
 
@@ -294,7 +286,7 @@ impl<'a> PayloadsView<'a, At<0>, At<8>, Reply<'a>> for ReplyPayloads<'a> {
         free: &mut u128,
     ) -> Result<bool, Error> {
         PayloadsView::<At<0>, At<8>, Reply<'a>>::read_at(
-            &mut self.all,
+            &mut self.0,
             number,
             input,
             k,
@@ -307,11 +299,11 @@ impl<'a> PayloadsView<'a, At<0>, At<8>, Reply<'a>> for ReplyPayloads<'a> {
 impl<'a> PayloadsDecoder<At<0>, At<8>, Reply<'a>> for ReplyPayloads<'a> {
     ghost makes_free = { ⟦<Decoders<'a> as PayloadsDecoder<At<0>, At<8>, Reply<'a>>>⟧.makes_free };
 
-    fn decode_at(&mut self, number: usize) -> Result<Reply<'a>, Error> {
-        PayloadsDecoder::<At<0>, At<8>, Reply<'a>>::decode_at(&mut self.all, number)
-    }
-
     ghost same_shapes = { refl };
+
+    fn decode_at(&mut self, number: usize) -> Result<Reply<'a>, Error> {
+        PayloadsDecoder::<At<0>, At<8>, Reply<'a>>::decode_at(&mut self.0, number)
+    }
 }
 
 impl<'a> HasEncoder for Reply<'a> {

@@ -52,6 +52,12 @@ impl EnumOf<2> for Two {
 impl Variants2<At<0>, At<2>, u8, i8> for Two {
     ghost values = { (λ p. Two.A p, λ p. Two.B p) };
 
+    ghost are = { (
+      is_variant refl (λ p. refl) (λ p old new h. h) (λ p old h. h) (λ p old new h. h),
+      is_variant refl (λ p. refl) (λ p old new h. h) (λ p old h. h) (λ p old new h. h),
+      refl,
+    ) };
+
     fn of_payload(payload: OneOf2<u8, i8>) -> Self
         ensures { result ≡ of_one_of_2 (λ p. Two.A p) (λ p. Two.B p) payload }
     {
@@ -60,12 +66,6 @@ impl Variants2<At<0>, At<2>, u8, i8> for Two {
             OneOf2::Second(a) => Two::B(a),
         }
     }
-
-    ghost are = { (
-      is_variant refl (λ p. refl) (λ p old new h. h) (λ p old h. h) (λ p old new h. h),
-      is_variant refl (λ p. refl) (λ p old new h. h) (λ p old h. h) (λ p old new h. h),
-      refl,
-    ) };
 }
 
 type Columns = EncodersOf2<At<0>, u8, i8>;
@@ -85,33 +85,29 @@ type Decoders<'a> = DecodersOf2<'a, At<0>, u8, i8>;
 
 /// The columns of the payloads of `Two`.
 #[derive(Drop)]
-pub struct TwoColumns {
-    all: Columns,
-}
+pub struct TwoColumns(Columns);
 
 impl HoldsVariantColumns for TwoColumns {
-    ghost columns = { columns_in (λ c. c.all) ⟦<Columns as HoldsVariantColumns>⟧.columns };
+    ghost columns = { columns_in (λ c. c.0) ⟦<Columns as HoldsVariantColumns>⟧.columns };
 }
 
 impl VariantColumns for TwoColumns {
     fn new(alloc: Global) -> Self {
-        TwoColumns {
-            all: VariantColumns::new(alloc),
-        }
+        TwoColumns(VariantColumns::new(alloc))
     }
 
     fn collect_all(&mut self, out: &mut Vec<u8>) -> Result<(), Error> {
-        self.all.collect_all(out)
+        self.0.collect_all(out)
     }
 
     fn clear_all(&mut self) {
-        self.all.clear_all();
+        self.0.clear_all();
     }
 }
 
 impl WritesVariants<At<0>, At<2>, TwoColumns> for Two {
     fn write(&self, to: &mut TwoColumns) -> Result<(), Error> {
-        WritesVariants::<At<0>, At<2>, Columns>::write(self, &mut to.all)
+        WritesVariants::<At<0>, At<2>, Columns>::write(self, &mut to.0)
     }
 
     ghost are_columns = { λ c. (refl, refl) };
@@ -119,19 +115,15 @@ impl WritesVariants<At<0>, At<2>, TwoColumns> for Two {
 
 /// The payloads that values of `Two` are made of.
 #[derive(Drop)]
-pub struct TwoPayloads<'a> {
-    all: Decoders<'a>,
-}
+pub struct TwoPayloads<'a>(Decoders<'a>);
 
 impl<'a> HoldsPayloads for TwoPayloads<'a> {
-    ghost held = { payloads_in (λ d. d.all) ⟦<Decoders<'a> as HoldsPayloads>⟧.held };
+    ghost held = { payloads_in (λ d. d.0) ⟦<Decoders<'a> as HoldsPayloads>⟧.held };
 }
 
 impl<'a> NewPayloads for TwoPayloads<'a> {
     fn new(alloc: Global) -> Self {
-        TwoPayloads {
-            all: NewPayloads::new(alloc),
-        }
+        TwoPayloads(NewPayloads::new(alloc))
     }
 }
 
@@ -148,18 +140,18 @@ impl<'a> PayloadsView<'a, At<0>, At<2>, Two> for TwoPayloads<'a> {
         strict: bool,
         free: &mut u128,
     ) -> Result<bool, Error> {
-        PayloadsView::<At<0>, At<2>, Two>::read_at(&mut self.all, number, input, k, strict, free)
+        PayloadsView::<At<0>, At<2>, Two>::read_at(&mut self.0, number, input, k, strict, free)
     }
 }
 
 impl<'a> PayloadsDecoder<At<0>, At<2>, Two> for TwoPayloads<'a> {
     ghost makes_free = { ⟦<Decoders<'a> as PayloadsDecoder<At<0>, At<2>, Two>>⟧.makes_free };
 
-    fn decode_at(&mut self, number: usize) -> Result<Two, Error> {
-        PayloadsDecoder::<At<0>, At<2>, Two>::decode_at(&mut self.all, number)
-    }
-
     ghost same_shapes = { refl };
+
+    fn decode_at(&mut self, number: usize) -> Result<Two, Error> {
+        PayloadsDecoder::<At<0>, At<2>, Two>::decode_at(&mut self.0, number)
+    }
 }
 
 impl HasEncoder for Two {

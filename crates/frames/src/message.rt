@@ -81,6 +81,14 @@ impl<'a> Variants4<At<0>, At<4>, (&'a str, u16), (u32, Celsius), (Level, &'a str
       λ p. Message.Bye,
     ) };
 
+    ghost are = { (
+      is_variant refl (λ p. refl) (λ p old new h. h) (λ p old h. h) (λ p old new h. h),
+      is_variant refl (λ p. refl) (λ p old new h. h) (λ p old h. h) (λ p old new h. h),
+      is_variant refl (λ p. refl) (λ p old new h. h) (λ p old h. h) (λ p old new h. h),
+      is_variant refl (λ p. refl) (λ p old new h. h) (λ p old h. h) (λ p old new h. h),
+      refl,
+    ) };
+
     fn of_payload(payload: OneOf4<(&'a str, u16), (u32, Celsius), (Level, &'a str), ()>) -> Self
         ensures { result ≡ of_one_of_4 (λ p. Message.Hello p.0 p.1) (λ p. Message.Measured p.0 p.1)
             (λ p. Message.Log p.0 p.1) (λ p. Message.Bye) payload.entry }
@@ -92,14 +100,6 @@ impl<'a> Variants4<At<0>, At<4>, (&'a str, u16), (u32, Celsius), (Level, &'a str
             OneOf4::Fourth(()) => Message::Bye,
         }
     }
-
-    ghost are = { (
-      is_variant refl (λ p. refl) (λ p old new h. h) (λ p old h. h) (λ p old new h. h),
-      is_variant refl (λ p. refl) (λ p old new h. h) (λ p old h. h) (λ p old new h. h),
-      is_variant refl (λ p. refl) (λ p old new h. h) (λ p old h. h) (λ p old new h. h),
-      is_variant refl (λ p. refl) (λ p old new h. h) (λ p old h. h) (λ p old new h. h),
-      refl,
-    ) };
 }
 
 type Columns = EncodersOf4<At<0>, (&'static str, u16), (u32, Celsius), (Level, &'static str), ()>;
@@ -134,33 +134,29 @@ type Decoders<'a> = DecodersOf4<'a, At<0>, (&'a str, u16), (u32, Celsius), (Leve
 
 /// The columns of the payloads of `Message`.
 #[derive(Drop)]
-pub struct MessageColumns {
-    all: Columns,
-}
+pub struct MessageColumns(Columns);
 
 impl HoldsVariantColumns for MessageColumns {
-    ghost columns = { columns_in (λ c. c.all) ⟦<Columns as HoldsVariantColumns>⟧.columns };
+    ghost columns = { columns_in (λ c. c.0) ⟦<Columns as HoldsVariantColumns>⟧.columns };
 }
 
 impl VariantColumns for MessageColumns {
     fn new(alloc: Global) -> Self {
-        MessageColumns {
-            all: VariantColumns::new(alloc),
-        }
+        MessageColumns(VariantColumns::new(alloc))
     }
 
     fn collect_all(&mut self, out: &mut Vec<u8>) -> Result<(), Error> {
-        self.all.collect_all(out)
+        self.0.collect_all(out)
     }
 
     fn clear_all(&mut self) {
-        self.all.clear_all();
+        self.0.clear_all();
     }
 }
 
 impl<'a> WritesVariants<At<0>, At<4>, MessageColumns> for Message<'a> {
     fn write(&self, to: &mut MessageColumns) -> Result<(), Error> {
-        WritesVariants::<At<0>, At<4>, Columns>::write(self, &mut to.all)
+        WritesVariants::<At<0>, At<4>, Columns>::write(self, &mut to.0)
     }
 
     ghost are_columns = { λ c. (refl, refl) };
@@ -168,19 +164,15 @@ impl<'a> WritesVariants<At<0>, At<4>, MessageColumns> for Message<'a> {
 
 /// The payloads that values of `Message` are made of.
 #[derive(Drop)]
-pub struct MessagePayloads<'a> {
-    all: Decoders<'a>,
-}
+pub struct MessagePayloads<'a>(Decoders<'a>);
 
 impl<'a> HoldsPayloads for MessagePayloads<'a> {
-    ghost held = { payloads_in (λ d. d.all) ⟦<Decoders<'a> as HoldsPayloads>⟧.held };
+    ghost held = { payloads_in (λ d. d.0) ⟦<Decoders<'a> as HoldsPayloads>⟧.held };
 }
 
 impl<'a> NewPayloads for MessagePayloads<'a> {
     fn new(alloc: Global) -> Self {
-        MessagePayloads {
-            all: NewPayloads::new(alloc),
-        }
+        MessagePayloads(NewPayloads::new(alloc))
     }
 }
 
@@ -198,7 +190,7 @@ impl<'a> PayloadsView<'a, At<0>, At<4>, Message<'a>> for MessagePayloads<'a> {
         free: &mut u128,
     ) -> Result<bool, Error> {
         PayloadsView::<At<0>, At<4>, Message<'a>>::read_at(
-            &mut self.all,
+            &mut self.0,
             number,
             input,
             k,
@@ -211,11 +203,11 @@ impl<'a> PayloadsView<'a, At<0>, At<4>, Message<'a>> for MessagePayloads<'a> {
 impl<'a> PayloadsDecoder<At<0>, At<4>, Message<'a>> for MessagePayloads<'a> {
     ghost makes_free = { ⟦<Decoders<'a> as PayloadsDecoder<At<0>, At<4>, Message<'a>>>⟧.makes_free };
 
-    fn decode_at(&mut self, number: usize) -> Result<Message<'a>, Error> {
-        PayloadsDecoder::<At<0>, At<4>, Message<'a>>::decode_at(&mut self.all, number)
-    }
-
     ghost same_shapes = { refl };
+
+    fn decode_at(&mut self, number: usize) -> Result<Message<'a>, Error> {
+        PayloadsDecoder::<At<0>, At<4>, Message<'a>>::decode_at(&mut self.0, number)
+    }
 }
 
 impl<'a> HasEncoder for Message<'a> {

@@ -70,6 +70,12 @@ pub enum OneOf2<P1, P2> {
 /// impl Variants2<At<0>, At<2>, u8, i8> for Two {
 ///     ghost values = { (λ p. Two.A p, λ p. Two.B p) };
 ///
+///     ghost are = { (
+///       is_variant refl (λ p. refl) (λ p old new h. h) (λ p old h. h) (λ p old new h. h),
+///       is_variant refl (λ p. refl) (λ p old new h. h) (λ p old h. h) (λ p old new h. h),
+///       refl,
+///     ) };
+///
 ///     fn of_payload(payload: OneOf2<u8, i8>) -> Self
 ///         ensures { result ≡ of_one_of_2 (λ p. Two.A p) (λ p. Two.B p) payload }
 ///     {
@@ -78,12 +84,6 @@ pub enum OneOf2<P1, P2> {
 ///             OneOf2::Second(a) => Two::B(a),
 ///         }
 ///     }
-///
-///     ghost are = { (
-///       is_variant refl (λ p. refl) (λ p old new h. h) (λ p old h. h) (λ p old new h. h),
-///       is_variant refl (λ p. refl) (λ p old new h. h) (λ p old h. h) (λ p old new h. h),
-///       refl,
-///     ) };
 /// }
 /// ```
 pub trait Variants2<First: VariantNumber, End: VariantNumber, P1: Shaped, P2: Shaped>: Enum {
