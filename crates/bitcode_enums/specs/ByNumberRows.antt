@@ -1,7 +1,7 @@
 -- Worked examples: what an enum of three variants states about them, computed from the definitions.
 use Rattle.std.specs.Prelude.{◌≡◌, ℕ, [], ◌∷◌, false, pos, refl}
 use Rattle.bitcode_shapes.specs.Datum.{number, unit}
-use Rattle.bitcode_shapes.specs.Shape.{variant_count}
+use Rattle.bitcode_shapes.specs.Shape.{variant_count, unit_shape, never_shape}
 use Rattle.bitcode_shapes.specs.Ints.{int_shape}
 use Rattle.bitcode_shapes.specs.DataOf.{DataOf}
 use Rattle.bitcode_shapes.specs.LawfulInts.{width_1}
@@ -9,7 +9,7 @@ use Rattle.bitcode_shapes.specs.LeafData.{unit_data, unsigned_data}
 use Rattle.bitcode_coder.specs.Coder.{JoinsListing}
 use Rattle.bitcode_coder.specs.Columns.{Columns, no_columns}
 use Rattle.bitcode_enums.specs.EachVariant.{Payloads, last_payload, payload_and, PayloadAt, each_variant}
-use Rattle.bitcode_enums.specs.ByNumber.{shape_at, columns_at, KeepsOthers}
+use Rattle.bitcode_enums.specs.ByNumber.{shape_at, shape_among, shapes_from, AreShapesOf, columns_at, KeepsOthers}
 use Rattle.bitcode_enums.specs.VariantsOf.{VariantsOf}
 
 data Shot : Type 0 where
@@ -45,6 +45,23 @@ row_fell = refl
 
 row_shape : shape_at 1 shots.shapes ≡ int_shape 1 false
 row_shape = refl
+
+-- the decoders of the last two variants read payloads of these shapes
+row_shapes_from : shapes_from 1 2 shots.shapes ≡ int_shape 1 false ∷ int_shape 1 false ∷ []
+row_shapes_from = refl
+
+row_are_shapes : AreShapesOf shots.shapes 1 (int_shape 1 false ∷ int_shape 1 false ∷ [])
+row_are_shapes = refl
+
+row_other_shapes : AreShapesOf shots.shapes 0 (int_shape 1 false ∷ []) → ⊥
+row_other_shapes e = cc
+
+row_shape_among : shape_among 1 (unit_shape ∷ int_shape 1 false ∷ []) ≡ int_shape 1 false
+row_shape_among = refl
+
+-- none of two decoders reads a third variant
+row_shape_of_none : shape_among 2 (unit_shape ∷ int_shape 1 false ∷ []) ≡ never_shape
+row_shape_of_none = refl
 
 row_payload : PayloadAt payloads 2 ≡ ℕ
 row_payload = refl
