@@ -25,8 +25,8 @@ shape_among place shapes = slice_index_or shapes place never_shape
 
 -- the shapes of so many variants from a number on
 abbrev pub shapes_from : (first count : ℕ) → Shapes → List Shape
-shapes_from first zero shapes = []
-shapes_from first (suc count) shapes = shape_at first shapes ∷ shapes_from (first + 1) count shapes
+shapes_from first zero ss = []
+shapes_from first (suc count) ss = shape_at first ss ∷ shapes_from (first + 1) count ss
 
 -- these are the shapes of the payloads of the variants from a number on
 abbrev pub AreShapesOf : Shapes → (first : ℕ) → List Shape → Type 0
