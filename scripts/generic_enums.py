@@ -117,6 +117,14 @@ def law_of_shape(encoder):
     return f"both_of_shape {found[1]}.of_shape " + (f"({second})" if " " in second else second)
 
 
+def alike(laws):
+    """That two lists are the same, by the laws of their elements."""
+    found = "refl"
+    for law in reversed(list(laws)):
+        found = f"first_and {law} " + (found if found == "refl" else f"({found})")
+    return found
+
+
 class Generic(Numbered):
     """The parts of the file of an enum with type parameters."""
 
@@ -158,22 +166,12 @@ class Generic(Numbered):
 
     def columns_alike(self, encoders, place):
         """That the columns in that place are those of the variants."""
-        found = "refl"
-        for encoder, name in reversed(list(zip(encoders, PLACES))):
-            found = f"columns_and ({law_of_shape(encoder)} {place}.{name}) " + (found if found == "refl" else f"({found})")
-        return found
-
-    def shapes_alike(self, decoders):
-        """That the decoders read payloads of the variants' shapes."""
-        found = "refl"
-        for decoder in reversed(decoders):
-            found = f"shapes_and {decoder}.same_shape " + (found if found == "refl" else f"({found})")
-        return found
+        return alike(f"({law_of_shape(encoder)} {place}.{name})" for encoder, name in zip(encoders, PLACES))
 
     def laws(self):
         """The laws that the file names."""
         several = any(len(variant.fields) > 1 for variant in self.enum.variants)
-        return {"columns_and", "shapes_and", *(["both_of_shape"] if several else [])}
+        return {"both_of_shape", "first_and"} if several else {"first_and"}
 
     def coders(self):
         """What is written of the coders that are parameters."""
@@ -189,7 +187,7 @@ class Generic(Numbered):
             "hold_columns": ", ".join(f"{name}: HoldsColumns" for name, _ in es),
             "hold_data": ", ".join(f"{name}: HoldsData" for name in ds),
             "makes_free": " && ".join(f"{name}.makes_free" for name in ds),
-            "same_shapes": self.shapes_alike(ds),
+            "same_shapes": alike(f"{name}.same_shape" for name in ds),
             "new": ", ".join(f"{name}: NewDecoder" for name in ds),
             "views": ", ".join(f"{name}: NewDecoder + View<{self.input}>" for name in ds),
             "encoders": f"Encoders{self.count}<At<0>, {', '.join(encoders)}>",

@@ -27,7 +27,7 @@ pub use Rattle.bitcode_enums.specs.VariantsOf.{VariantsOf, IsVariant, is_variant
 pub use Rattle.bitcode_enums.specs.EachVariant.{last_payload, payload_and, each_variant}
 pub use Rattle.bitcode_enums.specs.OneOf.{of_one_of_2, of_one_of_3, of_one_of_4}
 pub use Rattle.bitcode_enums.specs.HeldColumns.{columns_in, payloads_in}
-pub use Rattle.bitcode_enums.specs.ByNumberLaws.{columns_and, shapes_and}
+pub use Rattle.bitcode_enums.specs.ByNumberLaws.{first_and}
 -- That a struct and the nested pairs of its fields have the same listings:
 pub use Rattle.bitcode_tuples.specs.FieldLaws.{field_alike, pair_alike}
 -- The listings of some of its fields:

@@ -1,15 +1,13 @@
 -- Among variants that follow each other: what is said of the payload of one of them is said of the value, and of its place among them.
-use Rattle.std.proofs.Common.{◌≡◌, ℕ, ◌+◌, ◌-◌, ◌≤◌, List, sym, ap, subst, ◌∙◌, arith}
+use Rattle.std.proofs.Common.{◌≡◌, ℕ, ◌+◌, ◌-◌, List, sym, ap, subst, ◌∙◌, arith}
 use Rattle.bitcode_shapes.specs.Datum.{Datum}
 use Rattle.bitcode_shapes.specs.Shape.{Shape}
 use Rattle.bitcode_coder.specs.Columns.{Columns}
 use Rattle.bitcode_coder.specs.Coder.{JoinsListing, OverflowsWithListing}
-use Rattle.bitcode_enums.specs.ByNumber.{shape_at, columns_at}
+use Rattle.bitcode_enums.specs.ByNumber.{columns_at}
 use Rattle.bitcode_enums.specs.VariantsOf.{VariantsOf, IsVariant}
 
 module _ {T P : Type 0} (vs : VariantsOf T) {number : ℕ} {shape : Shape} {lists : P → Datum → Type 0} {makes : Datum → P → Type 0} {value : P → T} (v : IsVariant vs number shape lists makes value) where
-  -- ---- writing
-
   module _ {t : T} {p : P} (is : t ≡ value p) (first place : ℕ) (at : number ≡ first + place) where
     place_of : place ≡ vs.index t - first
     place_of = let of : vs.index t ≡ number = ap vs.index is ∙ v.is_of p in omega (arith, of, at)
@@ -24,12 +22,3 @@ module _ {T P : Type 0} (vs : VariantsOf T) {number : ℕ} {shape : Shape} {list
     overflows_of old h =
         subst (λ n. vs.overflows t (columns_at n old)) place_of
         (subst (λ u. vs.overflows u (columns_at place old)) (sym is) (v.overflows p (columns_at place old) h))
-
-  -- ---- reading
-
-  module _ {n first place : ℕ} (at : number ≡ first + place) (is : n - first ≡ place) (known : first ≤ n) where
-    pub number_of : number ≡ n
-    number_of = omega (arith, at, is, known)
-
-    pub shape_of : {read : Shape} → read ≡ shape → read ≡ shape_at n vs.shapes
-    shape_of same = same ∙ sym v.has_shape ∙ ap (λ m. shape_at m vs.shapes) number_of

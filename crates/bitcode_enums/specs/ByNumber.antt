@@ -24,13 +24,13 @@ abbrev pub shape_among : ℕ → List Shape → Shape
 shape_among place shapes = slice_index_or shapes place never_shape
 
 -- the shapes of so many variants from a number on
-abbrev pub shapes_from : (first count : ℕ) → Shapes → List Shape
-shapes_from first zero ss = []
-shapes_from first (suc count) ss = shape_at first ss ∷ shapes_from (first + 1) count ss
+abbrev pub shapes_of_variants : (first count : ℕ) → Shapes → List Shape
+shapes_of_variants first zero ss = []
+shapes_of_variants first (suc count) ss = shape_at first ss ∷ shapes_of_variants (first + 1) count ss
 
 -- these are the shapes of the payloads of the variants from a number on
 abbrev pub AreShapesOf : Shapes → (first : ℕ) → List Shape → Type 0
-AreShapesOf shapes first among = among ≡ shapes_from first (length among) shapes
+AreShapesOf shapes first among = among ≡ shapes_of_variants first (length among) shapes
 
 -- the columns of the variant at an index
 abbrev pub columns_at : ℕ → List Columns → Columns

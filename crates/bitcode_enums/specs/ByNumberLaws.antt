@@ -8,7 +8,7 @@ use Rattle.bitcode_shapes.specs.Choices.{ListsLast, ListsVariant, MakesLast, Mak
 use Rattle.bitcode_coder.specs.Columns.{Columns, emptied}
 use Rattle.bitcode_coder.specs.Coder.{written_columns, JoinsListing, OverflowsWithListing, TakesDatum}
 use Rattle.bitcode_parts.specs.Payloads.{HasPayloads}
-use Rattle.bitcode_enums.specs.ByNumber.{shape_at, shape_among, all_columns, bare_columns, AreColumnsOf, AreShapesOf, shapes_from, index_either, joins_either, overflows_either, takes_either}
+use Rattle.bitcode_enums.specs.ByNumber.{shape_at, shape_among, all_columns, bare_columns, AreColumnsOf, AreShapesOf, shapes_of_variants, index_either, joins_either, overflows_either, takes_either}
 use Rattle.bitcode_enums.specs.HeldColumns.{HeldPayloads, AreCounted, payloads_in, payloads_beside}
 use Rattle.bitcode_enums.specs.WritingLaws.{first_has_payloads}
 
@@ -96,9 +96,9 @@ module _ (shapes : Shapes) (first second end : ℕ) (front behind : List Columns
         ∙ ap (λ cs. map emptied front ++ cs) b.1 ∙ f.1,
   )
 
--- the columns of the first variant, and those of the ones behind it
-pub columns_and : {a b : Columns} {more others : List Columns} → a ≡ b → more ≡ others → a ∷ more ≡ b ∷ others
-columns_and first behind = ap₂ (λ c cs. c ∷ cs) first behind
+-- lists are the same whose first elements are, and those behind
+pub first_and : {A : Type 0} {a b : A} {more others : List A} → a ≡ b → more ≡ others → a ∷ more ≡ b ∷ others
+first_and first behind = ap₂ (λ x xs. x ∷ xs) first behind
 
 -- ---- the payloads of some variants, which a decoder holds
 
@@ -119,26 +119,22 @@ module _ {A B E : Type 0} (first_of : E → A) (second_of : E → B) {a : HeldPa
         omega (arith, sum, front, behind);
   }
 
--- the shape of the first variant, and those of the ones behind it
-pub shapes_and : {s t : Shape} {more others : List Shape} → s ≡ t → more ≡ others → s ∷ more ≡ t ∷ others
-shapes_and first behind = ap₂ (λ s ss. s ∷ ss) first behind
-
 module _ (shapes : Shapes) where
   -- the shapes of one group of variants, and of the one behind it
   pub shapes_beside : (first second : ℕ) (front behind : List Shape) → first + length front ≡ second → AreShapesOf shapes first front → AreShapesOf shapes second behind
       → AreShapesOf shapes first (front ++ behind)
-  shapes_beside first second [] behind counted f b = subst (λ n. behind ≡ shapes_from n (length behind) shapes) (omega (arith, counted)) b
+  shapes_beside first second [] behind counted f b = subst (λ n. behind ≡ shapes_of_variants n (length behind) shapes) (omega (arith, counted)) b
   shapes_beside first second (s ∷ more) behind counted f b =
       let here : s ≡ shape_at first shapes = cc in
-      let later : more ≡ shapes_from (first + 1) (length more) shapes = cc in
-      shapes_and here (shapes_beside (first + 1) second more behind (omega (arith, counted)) later b)
+      let later : more ≡ shapes_of_variants (first + 1) (length more) shapes = cc in
+      first_and here (shapes_beside (first + 1) second more behind (omega (arith, counted)) later b)
 
   shape_behind : (among : List Shape) (first place : ℕ) → AreShapesOf shapes first among → place < length among → shape_among place among ≡ shape_at (first + place) shapes
   shape_behind [] first place are below = absurd (omega (arith, below))
   shape_behind (s ∷ more) first zero are below =
       let here : s ≡ shape_at first shapes = cc in here ∙ ap (λ n. shape_at n shapes) (omega arith)
   shape_behind (s ∷ more) first (suc place) are below =
-      let later : more ≡ shapes_from (first + 1) (length more) shapes = cc in
+      let later : more ≡ shapes_of_variants (first + 1) (length more) shapes = cc in
       shape_behind more (first + 1) place later (omega (arith, below)) ∙ ap (λ n. shape_at n shapes) (omega arith)
 
   -- of all variants

@@ -9,7 +9,7 @@ use Rattle.bitcode_shapes.specs.LeafData.{unit_data, unsigned_data}
 use Rattle.bitcode_coder.specs.Coder.{JoinsListing}
 use Rattle.bitcode_coder.specs.Columns.{Columns, no_columns}
 use Rattle.bitcode_enums.specs.EachVariant.{Payloads, last_payload, payload_and, PayloadAt, each_variant}
-use Rattle.bitcode_enums.specs.ByNumber.{shape_at, shape_among, shapes_from, AreShapesOf, columns_at, KeepsOthers}
+use Rattle.bitcode_enums.specs.ByNumber.{shape_at, shape_among, shapes_of_variants, AreShapesOf, columns_at, KeepsOthers}
 use Rattle.bitcode_enums.specs.VariantsOf.{VariantsOf}
 
 data Shot : Type 0 where
@@ -47,8 +47,8 @@ row_shape : shape_at 1 shots.shapes ≡ int_shape 1 false
 row_shape = refl
 
 -- the decoders of the last two variants read payloads of these shapes
-row_shapes_from : shapes_from 1 2 shots.shapes ≡ int_shape 1 false ∷ int_shape 1 false ∷ []
-row_shapes_from = refl
+row_shapes_of_variants : shapes_of_variants 1 2 shots.shapes ≡ int_shape 1 false ∷ int_shape 1 false ∷ []
+row_shapes_of_variants = refl
 
 row_are_shapes : AreShapesOf shots.shapes 1 (int_shape 1 false ∷ int_shape 1 false ∷ [])
 row_are_shapes = refl

@@ -1,8 +1,8 @@
 //! `Msg` is a generic enum, with the items that `scripts/new_type` writes for an enum without type parameters. Its
 //! columns and payloads have the coders as type parameters.
 ghost use Rattle.std.specs.Prelude.{◌≡◌, ◌&&◌};
-ghost use Rattle.bitcode.specs.ByHand.{columns_and, columns_in, each_variant, enum_data, is_variant, last_payload};
-ghost use Rattle.bitcode.specs.ByHand.{of_one_of_3, payload_and, payloads_in, refl, shapes_and};
+ghost use Rattle.bitcode.specs.ByHand.{columns_in, each_variant, enum_data, first_and, is_variant, last_payload};
+ghost use Rattle.bitcode.specs.ByHand.{of_one_of_3, payload_and, payloads_in, refl};
 ghost use Rattle.bitcode_own_types.specs.declared.msg.Msg.{Msg};
 
 use bitcode::coder::{Buffer, Decoder, Encoder, HoldsColumns, HoldsData, NewDecoder, View};
@@ -92,8 +92,8 @@ impl<
 
     ghost are_columns = { λ c. (
       refl,
-      columns_and (E1.of_shape c.first)
-          (columns_and (E2.of_shape c.second) (columns_and (E3.of_shape c.third) refl)),
+      first_and (E1.of_shape c.first)
+          (first_and (E2.of_shape c.second) (first_and (E3.of_shape c.third) refl)),
     ) };
 }
 
@@ -133,8 +133,8 @@ impl<
 
     ghost are_columns = { λ c. (
       refl,
-      columns_and (E1.of_shape c.0.first)
-          (columns_and (E2.of_shape c.0.second) (columns_and (E3.of_shape c.0.third) refl)),
+      first_and (E1.of_shape c.0.first)
+          (first_and (E2.of_shape c.0.second) (first_and (E3.of_shape c.0.third) refl)),
     ) };
 }
 
@@ -186,8 +186,8 @@ impl<T: Shaped, D1: Decoder<T>, D2: Decoder<Vec<T>>, D3: Decoder<()>> PayloadsDe
 > for MsgPayloads<(T, Vec<T>, ()), D1, D2, D3> {
     ghost makes_free = { D1.makes_free && D2.makes_free && D3.makes_free };
 
-    ghost same_shapes = { shapes_and D1.same_shape
-        (shapes_and D2.same_shape (shapes_and D3.same_shape refl)) };
+    ghost same_shapes = { first_and D1.same_shape
+        (first_and D2.same_shape (first_and D3.same_shape refl)) };
 
     fn decode_at(&mut self, number: usize) -> Result<Msg<T>, Error> {
         PayloadsDecoder::<At<0>, At<3>, Msg<T>>::decode_at(&mut self.0, number)
