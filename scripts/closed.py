@@ -192,7 +192,7 @@ $reads_one
 """
 # How a value is read without a decoder.
 READS_ONE = """
-    const READS_ONE: bool = $answer;
+    const READS_ONE: bool = true;
 
     #[inline(always)]
     fn read_one(alloc: Global, input: &mut &[u8]) -> Option<$name>
@@ -334,7 +334,8 @@ def still_of(item, life):
 
 # Types of std and of the kit that are encoded as arrays, or may be, and those whose parts have lengths or variants of
 # their own, so that room is not reserved for arrays inside them.
-AS_ARRAYS = {"Uuid", "Ipv4Addr", "Ipv6Addr", "IpAddr", "SocketAddrV4", "SocketAddrV6", "SocketAddr"}
+ADDRESSES = {"Ipv4Addr", "Ipv6Addr", "IpAddr", "SocketAddrV4", "SocketAddrV6", "SocketAddr"}
+AS_ARRAYS = {"Uuid", *ADDRESSES}
 IN_LISTS = {
     "Vec", "BoxedSlice", "RcSlice", "ArcSlice", "VecDeque", "LinkedList", "ArrayVec", "BinaryHeap", "BTreeSet",
     "HashSet", "BTreeMap", "HashMap", "Option", "Result",
@@ -415,47 +416,38 @@ def part_encoder_text(part, own, number, struct, life, lists, types, numbers):
     return aliases + f"type {names} = {numbers};\n\n" + Template(HOLDER + PART).substitute(row)
 
 
-# Types whose decoders read lists without a decoder, those that read one value, and those that read none.
+# Types whose decoders read lists without a decoder, those that read one value, and those that read what is inside them.
 IN_READ_LISTS = {*INTEGERS, "f32", "f64", "bool", "String"}
-READ_ONE = {*IN_READ_LISTS, "char", *(f"NonZero{name.capitalize()}" for name in INTEGERS)}
-READ_NONE = {"BTreeSet", "HashSet", "BTreeMap", "HashMap", "BinaryHeap", "ArrayVec", "ArrayString"}
+READ_ONE = {*IN_READ_LISTS, "char", "Ordering", "Duration", *ADDRESSES, *(f"NonZero{name.capitalize()}" for name in INTEGERS)}
+READ_LISTS = {"Vec", "BoxedSlice", "RcSlice", "ArcSlice"}
+READ_INSIDE = {"Option", "Result", "Box", "Rc", "Arc", "Wrapping", "Saturating", "Range", "RangeInclusive"}
 
 
 def reads_one(type, own):
-    """Whether the decoder of the type reads one value without a decoder; `None` if only the library knows."""
-    if type.kind == "reference" or type.name in READ_NONE:
-        return False
+    """Whether the decoder of the type reads one value without a decoder. It is not told of a type whose declaration is in
+    another file, or has attributes."""
     if type.kind == "path" and type.name in own:
         item = own[type.name].item
-        if not item or item.types or item.consts or item.attributes:
-            return None
+        if not item or item.attributes:
+            return False
         if not is_pair(item):
             return not any(variant.fields for variant in item.variants)
-        return each_reads_one([field.type for field in fields_of(item)], inside_of(type, own))
-    if type.kind == "array" or type.name == "Vec":
+        held = [with_arguments(field.type, item, type.parts) for field in fields_of(item)]
+        return all(reads_one(inner, inside_of(type, own)) for inner in held)
+    if type.kind == "array" or type.kind == "path" and type.name in READ_LISTS:
         inner = type.parts[0]
-        if inner.kind != "path" or inner.name in own or inner.name in ("Option", "Vec"):
-            return False
-        return True if inner.name in IN_READ_LISTS else None
-    if type.kind == "tuple" and type.parts or type.name in ("Option", "Result"):
-        return each_reads_one(type.parts, own)
-    return True if type.kind == "path" and type.name in READ_ONE else None
-
-
-def each_reads_one(types, own):
-    """The same of a tuple of them: it reads one value if all do."""
-    found = [reads_one(type, own) for type in types]
-    return False if False in found else None if None in found else True
+        return inner.kind == "path" and inner.name not in own and inner.name in IN_READ_LISTS
+    if type.kind == "tuple" or type.kind == "path" and type.name in READ_INSIDE:
+        return bool(type.parts) and all(reads_one(part, own) for part in type.parts)
+    return type.kind == "path" and type.name in READ_ONE
 
 
 def item_reads_one(item, own):
     """The same of a struct. A value that borrows a text is read by its decoder."""
-    return False if item.lifetime else each_reads_one([field.type for field in fields_of(item)], own)
+    return not item.lifetime and all(reads_one(field.type, own) for field in fields_of(item))
 
 
 def decoder_text(simple, name, input, decoder, one, data="Data"):
     """The decoder of the type, which holds that one. `one` tells whether that one reads one value without a decoder."""
     row = {"simple": simple, "name": name, "input": input, "data": data}
-    row["answer"] = "true" if one else Template("<$data<$input> as Decoder<$name>>::READS_ONE").substitute(row)
-    one = "" if one is False else Template(READS_ONE).substitute(row)
-    return Template(DECODER).substitute(row, decoder=decoder, reads_one=one)
+    return Template(DECODER).substitute(row, decoder=decoder, reads_one=Template(READS_ONE).substitute(row) if one else "")

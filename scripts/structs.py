@@ -290,7 +290,7 @@ def closed_head(item, own):
     """What the contracts of coders of the item's own are stated in."""
     if not closed.is_closed(item, own):
         return "", set()
-    operators = "" if closed.item_reads_one(item, own) is False else "ghost use Rattle.std.specs.Prelude.{IfSome};\n"
+    operators = "ghost use Rattle.std.specs.Prelude.{IfSome};\n" if closed.item_reads_one(item, own) else ""
     return operators, {"Part"} | ({"reserve_as"} if closed.has_arrays(item, own) else set())
 
 
@@ -339,7 +339,7 @@ def tuple_text(item, imports, own, lent, **row):
     is_closed = closed.is_closed(item, own)
     coders = {closed.NEEDED} if is_closed else {"bitcode::coder::{ColumnFree, Decoder, HoldsData, NewDecoder, View}"} if apart else ()
     imports = {*imports, "std::alloc::Global", *coders}
-    reads_one = is_closed and closed.item_reads_one(item, own) is not False
+    reads_one = is_closed and closed.item_reads_one(item, own)
     stated = ["ReadsValue"] if reads_one else []
     stated += ["SurelyOverflows"] if is_closed and closed.has_arrays(item, own) else []
     by_hand = [*stated, "data_as", "field_alike", *(["pair_alike"] if len(fields) > 1 else []), "refl"]

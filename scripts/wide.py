@@ -105,7 +105,7 @@ def wide_text(struct, own, told):
     if sum(types_encoded(field.type, own) for field in struct.fields) > MOST_ENCODED:
         raise Refused(struct.line, f"the fields name more than {MOST_ENCODED} types, the borrow checker's limit for an encoder: group consecutive fields in structs, until it has 16 fields or fewer")
     one = item_reads_one(struct, own)
-    texts = [part_text(part, number, own, False if one is False else item_reads_one(part, own)) for number, part in enumerate(parts)]
+    texts = [part_text(part, number, own, one and item_reads_one(part, own)) for number, part in enumerate(parts)]
     alias = "Parts" + arguments(struct)
     whole = [part.name + arguments(part) for part in parts]
     found = [(field, f"{place}.{field.name}") for part, place in zip(parts, paths(len(parts))) for field in part.fields]
@@ -136,6 +136,6 @@ def wide_text(struct, own, told):
     head = Template(HEAD).substitute(
         about=f"`{struct.name}` corresponds to pairs of parts of its fields. What is below its declaration was written by `scripts/new_type`.",
         operators=closed_head(struct, own)[0],
-        by_hand=f"ghost use Rattle.bitcode.specs.ByHand.{{{', '.join([*([] if one is False else ['ReadsValue']), *stated, 'data_as', 'field_alike', 'lists_both', 'pair_alike', 'refl'])}}};\n", uses="\n".join(uses) + "\n",
+        by_hand=f"ghost use Rattle.bitcode.specs.ByHand.{{{', '.join([*(['ReadsValue'] if one else []), *stated, 'data_as', 'field_alike', 'lists_both', 'pair_alike', 'refl'])}}};\n", uses="\n".join(uses) + "\n",
     )
     return head + declaration(struct) + "\n" + "\n".join(texts) + body, checker.crates
