@@ -201,6 +201,8 @@ class Part:
         self.type, self.rust, self.kind, self.of = type_, rust(type_), "other", None
         # whether its elements are read by the function that reads it among other fields
         self.is_inside = False
+        # the fields that are read at once, with this one among them
+        self.run = None
         inner = (
             type_.parts[0] if type_.kind == "path" and len(type_.parts) == 1 and type_.name in ("Box", "Vec") else None
         )
@@ -309,7 +311,7 @@ def local_names(fields, taken):
         field.name
         if re.fullmatch(r"[a-z][a-z0-9]*(_[a-z0-9]+)*", field.name)
         and field.name not in taken
-        and not re.fullmatch(r"(place|found|value|field|k)\d+|read_.*", field.name)
+        and not re.fullmatch(r"(place|found|value|field|some|k)\d+|read_.*", field.name)
         else f"field{n}"
         for n, field in enumerate(fields)
     ]
@@ -334,6 +336,45 @@ def bound(variant):
         return f"({', '.join(names)})"
     fields = [name if name == field.name else f"{field.name}: {name}" for field, name in zip(variant.fields, names)]
     return f" {{ {', '.join(fields)} }}"
+
+
+class Run:
+    """Fields next to each other that are of no type of the group, and are read at once. `first` is the number of the first."""
+
+    def __init__(self, first, parts):
+        self.first, self.parts, self.name = first, parts, f"some{first}"
+
+    def value(self, part):
+        """One of the fields, as a term."""
+        return f"c.in_ok-{self.name}.{self.name}{'.1' * self.parts.index(part)}.0"
+
+
+# Of more fields at once, the checker stops at its step limit.
+MOST_AT_ONCE = 8
+
+
+def with_runs(parts):
+    """The fields, where each knows those that are read with it."""
+    first = 0
+    while first < len(parts):
+        end = first
+        while end < min(len(parts), first + MOST_AT_ONCE) and parts[end].kind == "other":
+            end += 1
+        if end - first > 1:
+            run = Run(first, parts[first:end])
+            for part in run.parts:
+                part.run = run
+        first = max(end, first + 1)
+    return parts
+
+
+def steps_of(parts):
+    """What is read one after another: the number of its first field, its fields, and whether they are read at once."""
+    return [
+        (n, part.run.parts if part.run else [part], part.run)
+        for n, part in enumerate(parts)
+        if not part.run or part.run.first == n
+    ]
 
 
 def with_list_inside(parts):
@@ -591,7 +632,7 @@ class Shaped:
 
     def fill(self, group):
         if self.is_struct:
-            self.parts = with_list_inside([Part(field.type, group) for field in self.item.fields])
+            self.parts = with_runs(with_list_inside([Part(field.type, group) for field in self.item.fields]))
             for part, name in zip(self.parts, local_names(self.item.fields, TAKEN_IN_CYCLES)):
                 part.local = name
             self.options = [field.name for field, part in zip(self.item.fields, self.parts) if part.kind == "option"]
@@ -602,7 +643,7 @@ class Shaped:
         self.options = []
         for _, parts in self.variants:
             if len(parts) > 1:
-                with_list_inside(parts)
+                with_runs(with_list_inside(parts))
             for n, part in enumerate(parts):
                 part.local = f"field{n}"
 

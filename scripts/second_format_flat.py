@@ -19,7 +19,7 @@ from second_format import (
     tree_of,
     trees_and,
 )
-from second_format_text import built, nested
+from second_format_text import built, nested, tuple_written
 from structs import quoted
 
 
@@ -92,8 +92,7 @@ def pattern(flat, variant, names):
 def written(flat):
     """The body of `write`."""
     if flat.is_struct:
-        refs = [f"&self.{field.name}" for field in flat.item.fields]
-        return f"        write_tuple(&{nested(refs)}, {len(refs)}, writer, left, place)\n"
+        return tuple_written(flat.item, "left")
     arms = ""
     for index, (variant, types) in enumerate(flat.variants):
         names = bound_names(variant)

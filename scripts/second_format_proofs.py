@@ -2,7 +2,7 @@
 
 import re
 
-from second_format import SIGNED, applied, bound_names, data_of, field_in, payload_tree, tree_of
+from second_format import SIGNED, applied, bound_names, data_of, field_in, payload_tree, steps_of, tree_of, trees_of
 from second_format_flat import answers
 from second_format_containers import (
     FEW_FIELDS,
@@ -31,7 +31,7 @@ OF_ANSWERS = [
         "bitcode_serde_types.proofs.StepsRead",
         "continues_on still_there columns_first columns_behind no_fields_kept place_there kept_otherwise PairsKept "
         "no_memory no_pairs pairs_more keys_there values_there key_not_kept value_not_kept pairs_kept map_kept "
-        "entries_mapped refused_on too_deep too_deep_written and_field field_refused and_found found_refused "
+        "entries_mapped refused_on too_deep too_deep_written and_field field_refused and_fields fields_refused and_found found_refused "
         "all_fields_kept ItemsKept no_items items_there and_item item_refused items_kept item_stuck and_list "
         "variant_refused variant_kept unit_variant_kept",
     ),
@@ -55,7 +55,9 @@ def own_imports(group, text, with_lemmas=True):
             ],
             text,
         )
-        found += used([(f"{place}.{group.ordered[0].name}.TheViews", f"roll-{shaped.name}")], text)
+        if shaped.options:
+            former = f"former-{shaped.name}-{shaped.options[0]}"
+            found += used([(f"{place}.{group.ordered[0].name}.TheShapes", former)], text)
         found += used([(f"{place}.{shaped.name}", f"{shaped.name} out-{shaped.name}")], text)
         if f"{shaped.word}'." in text:
             found += f"use Rattle.{place}.{shaped.name}.TheVariants as {shaped.word}'\n"
@@ -67,10 +69,7 @@ def own_imports(group, text, with_lemmas=True):
             [
                 (
                     f"{group.crate}.proofs.{group.lemmas}",
-                    " ".join(
-                        f"{shaped.word}_content {shaped.word}_made"
-                        for shaped in group.types
-                    ),
+                    " ".join(f"{shaped.word}_content" for shaped in group.types),
                 )
             ],
             text,
@@ -109,9 +108,7 @@ def columns_lemmas(group):
 
 def lemmas(group):
     """The contents of structs with options of themselves."""
-    text = "".join(
-        content_lemma(group, shaped, False) + content_lemma(group, shaped, True) for shaped in group.options
-    )
+    text = "".join(content_lemma(group, shaped) for shaped in group.options)
     return (
         "-- The content of a struct with options, by these. Written by `scripts/second_format`.\n"
         + used(OF_LEMMAS, text)
@@ -120,40 +117,36 @@ def lemmas(group):
     )
 
 
-def content_lemma(group, shaped, is_made):
-    """The content of a struct with options, by these: of a value, or of one that is made of its fields."""
-    w, name, count = shaped.word, shaped.name, len(shaped.options)
-    own, value, of = ("t", f"(roll-{name} t)", f"{name}-F {name}") if is_made else (f"(out-{name} t)", "t", name)
-    word, fold = (f"{w}_made", f"fold-roll-{name}") if is_made else (f"{w}_content", f"fold_out-{name}")
-    takes = " ".join(f"(o{n} : Option (Box {name} Global))" for n in range(count))
-    given = " → ".join(f"{own}.{option} ≡ o{n}" for n, option in enumerate(shaped.options))
-    held = [
-        f"(option_datum (λ b. {w}_datum b.value) o{shaped.options.index(field.name)})"
-        if part.kind == "option"
-        else applied(part.datum(), f"{own}.{field.name}")
-        for field, part in zip(shaped.item.fields, shaped.parts)
+def content_lemma(group, shaped):
+    """One level of the content of a struct with options of itself, by the content of each value inside."""
+    w, name, first = shaped.word, shaped.name, shaped.options[0]
+    mapped = f"former-{name}-{first}.map {name} Datum {w}_datum"
+    own = lambda field: f"(option_datum (λ b. {w}_datum b.value) t.{field})"
+    open_ = lambda field: f"(option_datum (λ b. b.value) ({mapped} t.{field}))"
+
+    def held(turn):
+        """The content where the options before this one are told, and this one is a variable."""
+        for field, part in zip(shaped.item.fields, shaped.parts):
+            place = shaped.options.index(field.name) if part.kind == "option" else None
+            if place is None:
+                yield applied(part.datum(), f"t.{field.name}")
+            else:
+                yield "z" if place == turn else (own if place < turn else open_)(field.name)
+
+    count = len(shaped.options)
+    turns = [
+        f"ap (λ z. tuple {data_of([*held(turn)])}) ({w}_option t.{option})" for turn, option in enumerate(shaped.options)
     ]
-    turns = ""
-    for n in range(count):
-        fields = []
-        for field in shaped.item.fields:
-            place = shaped.options.index(field.name) if field.name in shaped.options else None
-            fields.append(
-                f"{quoted(field.name)} = "
-                + (f"{own}.{field.name}" if place is None or place > n else "z" if place == n else f"o{place}")
-            )
-        turns += (
-            f"\n    ∙ ap (λ z. {w}_step (map-{name} {name} Datum {w}_datum (record {{ {'; '.join(fields)} }}))) e{n}"
-        )
-    es = " ".join(f"e{n}" for n in range(count))
-    clauses = ""
-    for case in range(2**count):
-        chosen = {f"o{n}": f"(Some b{n})" if case >> n & 1 else "None" for n in range(count)}
-        term = turns
-        for variable, pattern in chosen.items():
-            term = term.replace(f" {variable};", f" {pattern};").replace(f" {variable} }}", f" {pattern} }}")
-        clauses += f"{word} t {' '.join(chosen.values())} {es} =\n    {fold} {group.fold(shaped)} t{term}\n"
-    return f"\npub {word} : (t : {of}) {takes} → {given}\n    → {w}_datum {value} ≡ tuple {data_of(held)}\n{clauses}"
+    return f"""
+{w}_option : (o : Option (Box {name} Global)) → option_datum (λ b. b.value) ({mapped} o) ≡ \
+option_datum (λ b. {w}_datum b.value) o
+{w}_option None = refl
+{w}_option (Some b) = refl
+
+pub {w}_content : (t : {name}-F {name}) → {w}_step (map-{name} {name} Datum {w}_datum t) ≡ tuple {data_of([*held(count)])}
+{w}_content t =
+    {f"{BREAK}∙ ".join(turns)}
+"""
 
 
 def with_head(group, about, goals, text):
@@ -221,9 +214,8 @@ def of_struct(group, shaped):
         return f"fold_out-{shaped.name} {group.fold(shaped)} c.args.self.now" + maps_told(
             shaped.parts, values, tuple_of
         )
-    now = f"(out-{shaped.name} c.args.self.now)"
-    options = " ".join(f"{now}.{option}" for option in shaped.options)
-    return f"{shaped.word}_content c.args.self.now {options} {' '.join('refl' for _ in shaped.options)}"
+    fold = f"fold_out-{shaped.name} {group.fold(shaped)} c.args.self.now"
+    return f"{fold} ∙ {shaped.word}_content (out-{shaped.name} c.args.self.now)"
 
 
 FOLLOWED = "c.in_ok-below.ensures.followed"
@@ -274,6 +266,8 @@ pub {prefix}returns-in-{v} : goal.{prefix}returns-in-{v}
 
 def value_of(part):
     """The field that was read, as a term."""
+    if part.run:
+        return part.run.value(part)
     return f"c.loop-i.{part.local}" if part.is_inside else f"c.in_ok-{part.local}.{part.local}"
 
 
@@ -282,18 +276,25 @@ def no_fields(trees):
 
 
 def lets(trees, parts, k):
-    """The fields that were read, one after another."""
+    """What was read of the fields, one step after another."""
     text = f"    let k0 = {no_fields(trees)} in\n"
-    for n, part in enumerate(parts[:k]):
-        value = f"value{n}" if part.kind == "box" else part.local
-        step = f"and_field k{n}" if part.kind == "other" else f"and_found k{n} c.in_ok-place{n}.ensures.found"
+    for j, (n, held, run) in enumerate(steps_of(parts)[:k]):
+        part = held[0]
+        value = run.name if run else f"value{n}" if part.kind == "box" else part.local
         if part.is_inside:
-            text += f"""    let k{n + 1} = and_list k{n} c.in_ok-place{n}.ensures.found c.loop-i.invariant \
+            text += f"""    let k{j + 1} = and_list k{j} c.in_ok-place{n}.ensures.found c.loop-i.invariant \
 c.in_ok-found{n}.ensures.enters c.in_ok-found{n}.ensures.continues (omega arith)
     ({part.of.word}_columns {left_of(trees)}) c.enter_list.ensures.taken {part.datum()} c.loop-i.{part.local} refl in
 """
+            continue
+        step = f"c.in_ok-{value}.ensures.continues c.in_ok-{value}.ensures.read"
+        if run:
+            step = f"and_fields ({trees}) c.in_ok-{value}.ensures.read k{j} c.in_ok-{value}.ensures.continues"
+        elif part.kind == "other":
+            step = f"and_field k{j} {step}"
         else:
-            text += f"    let k{n + 1} = {step} c.in_ok-{value}.ensures.continues c.in_ok-{value}.ensures.read in\n"
+            step = f"and_found k{j} c.in_ok-place{n}.ensures.found {step}"
+        text += f"    let k{j + 1} = {step} in\n"
     return text
 
 
@@ -302,27 +303,27 @@ def left_of(trees):
     return trees.split(" ", 1)[1]
 
 
-def list_inside_answers(fn, trees, parts, n, tree, turn):
-    """The answers for a list that is read among fields, one element after another."""
+def list_inside_answers(fn, trees, parts, j, n, tree, turn):
+    """The answers for a list that is read among fields, one element after another: field `n`, in step `j`."""
     part, left = parts[n], left_of(trees)
-    w, step = part.of.word, f"found_refused k{n} c.in_ok-place{n}.ensures.found"
+    w, step = part.of.word, f"found_refused k{j} c.in_ok-place{n}.ensures.found"
     refused = f"c.in_err-found{n}.ensures.refused ({w}_tree {left}) ({w}_columns {left})"
     not_found = turn(f"{step} {left_through(f'found{n}', BREAK)} ({refused})")
     stuck = turn(
-        f"item_stuck k{n} c.in_ok-place{n}.ensures.found c.loop-i.invariant c.in_ok-found{n}.ensures.enters"
+        f"item_stuck k{j} c.in_ok-place{n}.ensures.found c.loop-i.invariant c.in_ok-found{n}.ensures.enters"
         f" (omega arith){BREAK}{left_through('item')} c.in_err-item.ensures.refused"
     )
     text = f"""
 pub {fn}-returns-in_err-found{n}-clause-refused : goal.{fn}-returns-in_err-found{n}-clause-refused
 {fn}-returns-in_err-found{n}-clause-refused t c =
-{lets(trees, parts, n)}{not_found}
+{lets(trees, parts, j)}{not_found}
 pub {fn}-read_{w}-requires : goal.{fn}-read_{w}-requires
 {fn}-read_{w}-requires t c =
     search (rules, items_there c.loop-i.invariant c.in_ok-found{n}.ensures.inside, c.loop-i.invariant.continues.steady)
 
 pub {fn}-returns-in_err-item-clause-refused : goal.{fn}-returns-in_err-item-clause-refused
 {fn}-returns-in_err-item-clause-refused t c =
-{lets(trees, parts, n)}{stuck}
+{lets(trees, parts, j)}{stuck}
 pub {fn}-loop-i-init : goal.{fn}-loop-i-init
 {fn}-loop-i-init t c = no_items {w}_datum ({w}_tree {left}) _ _ _ _ c.in_ok-found{n}.ensures.continues.steady (search \
 rules)
@@ -346,36 +347,35 @@ def counted(name, count):
 
 
 def fields_answers(fn, tree, trees, parts, is_deep, datum, value, equation):
-    """The answers of a function that reads fields, one after another, below a reference or not."""
+    """The answers of a function that reads fields, one step after another, below a reference or not."""
     turn = lambda inner: f"    rw {FOLLOWED} ({inner})\n" if is_deep else f"    {inner}\n"
-    text, fields, others, called = "", 0, 0, []
-    for n, part in enumerate(parts):
-        found = f"value{n}" if part.kind == "box" else part.local
+    steps, text, called = steps_of(parts), "", []
+    for j, (n, held, run) in enumerate(steps):
+        part = held[0]
+        is_behind = j > 0 and steps[j - 1][1][0].kind != "other"
+        there = f"place_there _ _ _ _ k{j} c.requires.place"
         if part.kind == "other":
-            others += 1
-            step = f"field_refused k{n}"
-            if n > 0 and parts[n - 1].kind != "other":
-                goal = f"{fn}-{counted('read_field-requires', others)}"
+            called.append("read_some" if run else "read_field")
+            if is_behind:
+                goal = f"{fn}-{counted(f'{called[-1]}-requires', called.count(called[-1]))}"
                 text += f"""
 pub {goal} : goal.{goal}
 {goal} t c =
-{lets(trees, parts, n)}    let there = place_there _ _ _ _ k{n} c.requires.place in
-    let steady = k{n}.continues.steady in
+{lets(trees, parts, j)}    let there = {there} in
+    let steady = k{j}.continues.steady in
     search (rules, there, steady)
 """
         else:
-            fields += 1
-            step = f"found_refused k{n} c.in_ok-place{n}.ensures.found"
-            if n > 0 and parts[n - 1].kind != "other":
-                goal = f"{fn}-{counted('find_field-requires', fields)}"
+            called.append("find_field")
+            if is_behind:
+                goal = f"{fn}-{counted('find_field-requires', called.count('find_field'))}"
                 text += f"""
 pub {goal} : goal.{goal}
 {goal} t c =
-{lets(trees, parts, n)}    record \
-{{ place = place_there _ _ _ _ k{n} c.requires.place; steady = k{n}.continues.steady }}
+{lets(trees, parts, j)}    record {{ place = {there}; steady = k{j}.continues.steady }}
 """
             if part.is_inside:
-                text += list_inside_answers(fn, trees, parts, n, tree, turn)
+                text += list_inside_answers(fn, trees, parts, j, n, tree, turn)
                 continue
             if len(parts) > FEW_FIELDS:
                 called.append(part.function())
@@ -384,18 +384,8 @@ pub {goal} : goal.{goal}
 pub {goal} : goal.{goal}
 {goal} t c = (search rules, (c.in_ok-place{n}.ensures.inside, c.in_ok-place{n}.ensures.continues.steady))
 """
-        if n == 0:
-            step = step.replace(" k0", f" ({no_fields(trees)})")
-        through = left_through(found, BREAK)
-        if n == 0 and part.kind == "other" and not is_deep:
-            through = through.replace(f"c.from_residual-in_err-{found}", "c.from_residual")
-        goal = f"{fn}-returns-in_err-{found}-clause-refused"
-        inner = f"{step} {through} c.in_err-{found}.ensures.refused"
-        text += f"""
-pub {goal} : goal.{goal}
-{goal} t c =
-{lets(trees, parts, n) if n else ''}{turn(inner)}"""
-    last = len(parts)
+        text += step_refused(fn, trees, parts, j, is_deep, turn)
+    last = len(steps)
     kept = f"all_fields_kept k{last} c.args.budget.now c.take.ensures {datum} {value} ({equation})"
     if has_signed_field(parts):
         kept = f"let k = {kept} in search (rules, k)"
@@ -409,6 +399,31 @@ pub {goal} : goal.{goal}
 {lets(trees, parts, last)}    record {{ continues = k{last}.continues; read = {read}; refused = tt }}
 """
     )
+
+
+def step_refused(fn, trees, parts, j, is_deep, turn):
+    """The answer for the `?` of a step."""
+    n, held, run = steps_of(parts)[j]
+    part = held[0]
+    found = run.name if run else f"value{n}" if part.kind == "box" else part.local
+    k = f"k{j}" if j else f"({no_fields(trees)})"
+    through = left_through(found, BREAK)
+    if n == 0 and part.kind == "other" and not is_deep:
+        through = through.replace(f"c.from_residual-in_err-{found}", "c.from_residual")
+    refused = f"c.in_err-{found}.ensures.refused"
+    if run:
+        left, behind = left_of(trees), parts[n + len(held) :]
+        shapes = f"{trees_of(held, left)} {trees_of(behind, left)}"
+        inner = f"fields_refused ({trees}) {shapes} {k}{BREAK}{through} {refused}"
+    elif part.kind == "other":
+        inner = f"field_refused {k} {through} {refused}"
+    else:
+        inner = f"found_refused {k} c.in_ok-place{n}.ensures.found {through} {refused}"
+    goal = f"{fn}-returns-in_err-{found}-clause-refused"
+    return f"""
+pub {goal} : goal.{goal}
+{goal} t c =
+{lets(trees, parts, j) if j else ''}{turn(inner)}"""
 
 
 def has_signed_field(parts):
@@ -443,8 +458,7 @@ def struct_answers(group, shaped):
     values = [value_of(part) for part in shaped.parts]
     equation = f"fold-roll-{shaped.name} {group.fold(shaped)} {value}" + maps_told(shaped.parts, values, tuple_of)
     if shaped.options:
-        read = [value_of(part) for part in shaped.parts if part.kind == "option"]
-        equation = f"{w}_made {value} {' '.join(read)} {' '.join('refl' for _ in read)}"
+        equation = f"fold-roll-{shaped.name} {group.fold(shaped)} {value} ∙ {w}_content {value}"
         raise_on_boxes(shaped)
     if any(part.kind == "box" for part in shaped.parts):
         equation += f" ∙ {boxes(shaped.parts)}"

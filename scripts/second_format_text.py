@@ -2,7 +2,7 @@
 
 import re
 
-from second_format import LIBRARY, MAPS, applied, bound, bound_names, data_of, field_in, payload_tree, sounds, trees_of
+from second_format import LIBRARY, MAPS, applied, bound, bound_names, data_of, field_in, payload_tree, sounds, steps_of, trees_of
 from second_format_std import TYPES_OF_STD, WORDS_OF_STD
 from declarations import Struct
 from structs import declaration as struct_declaration
@@ -196,7 +196,7 @@ OF_LIBRARY = [
     (
         "bitcode_serde_types::written",
         "Budget DeserializeAs DeserializeFields Error Reader Reason SerializeAs Writer enter_list enter_map "
-        f"enter_variant find_field follow {' '.join(sorted(MAPS.values()))} read_at read_field read_tuple write_tuple "
+        f"enter_variant find_field follow {' '.join(sorted(MAPS.values()))} read_at read_field read_some read_tuple write_tuple "
         "write_variant",
     ),
     ("std::alloc", "Global"),
@@ -232,7 +232,13 @@ fn {name}{generics}(
 
 def fields_read(parts, left):
     text = ""
-    for n, part in enumerate(parts):
+    for n, held, run in steps_of(parts):
+        part = held[0]
+        if run:
+            call = f"read_some(alloc, reader, budget, {left}, place, {n}, {len(parts)})?"
+            names = nested([one.local for one in held]).replace("()", "_end")
+            text += f"    let {run.name}: {nested([one.rust for one in held])} = {call};\n    let {names} = {run.name};\n"
+            continue
         if part.kind == "other":
             call = f"read_field(alloc, reader, budget, {left}, place, {n}, {len(parts)})?"
             text += f"    let {part.local}: {part.rust} = {call};\n"
@@ -414,12 +420,24 @@ def nested(names):
     return text
 
 
+# `rt fmt` keeps arguments of a call in its line up to so many columns.
+MOST_OF_ARGUMENTS = 60
+
+
+def tuple_written(item, left):
+    """The end of the body of `write` of a struct."""
+    fields = nested([f"&self.{field.name}" for field in item.fields])
+    call = lambda fields: f"{fields}, {len(item.fields)}, writer, {left}, place"
+    if len(call(f"&{fields}")) <= MOST_OF_ARGUMENTS:
+        return f"        write_tuple({call(f'&{fields}')})\n"
+    return f"        let fields = {fields};\n        write_tuple({call('&fields')})\n"
+
+
 def write_body(shaped):
     """The body of `write` of a recursive type."""
     body = f"    {DEEP}"
     if shaped.is_struct:
-        refs = [f"&self.{field.name}" for field in shaped.item.fields]
-        return body + f"        write_tuple(&{nested(refs)}, {len(refs)}, writer, below, place)\n"
+        return body + tuple_written(shaped.item, "below")
     body += "        match self {\n"
     for index, (variant, parts) in enumerate(shaped.variants):
         names, taken = bound_names(variant), bound(variant)

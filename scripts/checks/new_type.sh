@@ -1,13 +1,14 @@
 #!/usr/bin/env bash
 # What scripts/new_type writes: the types of bitcode_own_types, bitcode_large_types and the programs stand as it writes
 # them; the types of scripts/own_types/tried.txt compile, the structs are read and written as the tuples of their
-# fields, and the enums as the bytes that docs/FORMAT.md says or at least as they were written; what it cannot do is
-# refused as scripts/own_types/refused.txt says; and it writes over no file but those that it wrote, and all files or
-# none. It proves nothing: the types of the crate are proved with it, and `rt check` proved sixteen more structs as they
-# were written once, of no, one, two, three, eight, nine and sixteen fields, of each type of field, nested, in a list,
-# with type parameters and with a lifetime. Of enums it proved what six say of their variants, of 2, 3, 6, 17 and 256
-# variants without fields, with numbers and with names that clauses reserve, and what four of one variant and one of
-# none stand for; of the enums with fields those of the crate, and those that docs/HISTORY.md names.
+# fields, and the enums as the bytes that docs/FORMAT.md says or at least as they were written; the types of
+# scripts/own_types/sets, as programs have them, compile; what it cannot do is refused as scripts/own_types/refused.txt
+# says; and it writes over no file but those that it wrote, and all files or none. It proves nothing: the types of the
+# crate are proved with it, and `rt check` proved sixteen more structs as they were written once, of no, one, two,
+# three, eight, nine and sixteen fields, of each type of field, nested, in a list, with type parameters and with a
+# lifetime. Of enums it proved what six say of their variants, of 2, 3, 6, 17 and 256 variants without fields, with
+# numbers and with names that clauses reserve, and what four of one variant and one of none stand for; of the enums
+# with fields those of the crate, and those that docs/HISTORY.md names.
 cd "$(dirname "$0")/../.." || exit 2
 work=$(mktemp -d)
 trap 'rm -rf "$work"' EXIT
@@ -28,14 +29,21 @@ for program in frames snapshots record_cache column_report; do
   kept "$program" "scripts/own_types/$program.txt"
 done
 
-# What programs have: every declaration is accepted.
-for set in scripts/own_types/sets/*.txt; do
-  scripts/new_type "$set" "$work/sets" >/dev/null 2>"$work/notes" || { echo "new_type: $set"; cat "$work/notes"; wrong=1; }
-  rm -rf "$work/sets"
-done
-
 . scripts/libraries.sh
 copy_libraries "$work" || exit 2
+
+# What programs have: every declaration is accepted. Each set is a crate, on which the program below depends, so that
+# its files have to compile.
+sets=
+for set in scripts/own_types/sets/*.txt; do
+  name=set_$(basename "$set" .txt)
+  mkdir -p "$work/crates/$name/src" || exit 2
+  scripts/new_type "$set" "$work/crates/$name" >"$work/set" 2>"$work/notes" || { echo "new_type: $set"; cat "$work/notes"; wrong=1; }
+  { echo "//! A set."; sed -n '/^pub mod .*;$/p' "$work/set"; } >"$work/crates/$name/src/lib.rt"
+  sed -n "/^$name: /p" "$work/set" >>"$work/crates.txt"
+  sets="$sets $name"
+done
+
 mkdir -p "$work/crates/own_types/src" || exit 2
 scripts/new_type scripts/own_types/tried.txt "$work/crates/own_types" >"$work/lines" 2>"$work/notes" || { cat "$work/notes"; exit 2; }
 scripts/new_type scripts/own_types/later.txt "$work/crates/own_types" >"$work/later" || exit 2
@@ -45,7 +53,7 @@ sed -E 's/^new_type: line [0-9]+: //' "$work/notes" | cmp - scripts/own_types/no
   sed -n 's/^pub \(mod .*\)/\1/p' "$work/lines" "$work/later"
   sed '1,/^\$modules$/d' scripts/own_types/main.rt.txt
 } >"$work/main.txt"
-add_program "$work" own_types "$work/main.txt" "$(sed -n 's/^own_types: //p' "$work/lines")" || exit 2
+add_program "$work" own_types "$work/main.txt" "$(sed -n 's/^own_types: //p' "$work/lines")$sets" || exit 2
 (cd "$work/crates/own_types" && "$try" --steps 1000 --seconds 7200 >"$work/log" 2>&1)
 grep -q 'run=ended status=0' "$work/log" || {
   grep -m 5 -E 'error|unreachable|status=|run=' "$work/log" | sed 's/^/new_type: /'

@@ -28,13 +28,8 @@ impl SerializeAs for Desk {
     ghost sound = { desk_sound };
 
     fn write(&self, writer: &mut Writer, left: usize, place: usize) -> Result<(), Error> {
-        write_tuple(
-            &(&self.id, (&self.label, (&self.open, (&self.waiting, ())))),
-            4,
-            writer,
-            left,
-            place,
-        )
+        let fields = (&self.id, (&self.label, (&self.open, (&self.waiting, ()))));
+        write_tuple(&fields, 4, writer, left, place)
     }
 }
 

@@ -5,7 +5,7 @@ ghost use Rattle.bitcode_recursive_types.specs.NodeShape.{node_tree, node_datum}
 
 use bitcode_serde_types::written::{
     Budget, DeserializeAs, Error, Reader, SerializeAs, Writer, enter_list, find_field, follow,
-    read_field, write_tuple,
+    read_field, read_some, write_tuple,
 };
 use std::alloc::Global;
 
@@ -29,16 +29,11 @@ impl SerializeAs for Node {
 
     fn write(&self, writer: &mut Writer, left: usize, place: usize) -> Result<(), Error> {
         let below = follow(left)?;
-        write_tuple(
-            &(
-                &self.name,
-                (&self.weight, (&self.children, (&self.labels, ()))),
-            ),
-            4,
-            writer,
-            below,
-            place,
-        )
+        let fields = (
+            &self.name,
+            (&self.weight, (&self.children, (&self.labels, ()))),
+        );
+        write_tuple(&fields, 4, writer, below, place)
     }
 }
 
@@ -77,8 +72,8 @@ fn read_node(
 {
     let below = follow(left)?;
     budget.take(1);
-    let name: String = read_field(alloc, reader, budget, below, place, 0, 4)?;
-    let weight: i32 = read_field(alloc, reader, budget, below, place, 1, 4)?;
+    let some0: (String, (i32, ())) = read_some(alloc, reader, budget, below, place, 0, 4)?;
+    let (name, (weight, _end)) = some0;
     let place2 = find_field(reader, place, 2, 4)?;
     let found2 = enter_list(reader, budget, false, place2)?;
     let mut children = Vec::new(alloc);

@@ -35,28 +35,23 @@ impl SerializeAs for Peer {
     ghost sound = { peer_sound };
 
     fn write(&self, writer: &mut Writer, left: usize, place: usize) -> Result<(), Error> {
-        write_tuple(
-            &(
-                &self.address,
+        let fields = (
+            &self.address,
+            (
+                &self.listens,
                 (
-                    &self.listens,
+                    &self.key,
                     (
-                        &self.key,
+                        &self.waiting,
                         (
-                            &self.waiting,
-                            (
-                                &self.names,
-                                (&self.domain, (&self.weight, (&self.seen, ()))),
-                            ),
+                            &self.names,
+                            (&self.domain, (&self.weight, (&self.seen, ()))),
                         ),
                     ),
                 ),
             ),
-            8,
-            writer,
-            left,
-            place,
-        )
+        );
+        write_tuple(&fields, 8, writer, left, place)
     }
 }
 

@@ -41,13 +41,8 @@ impl SerializeAs for Polygon {
     ghost sound = { polygon_sound };
 
     fn write(&self, writer: &mut Writer, left: usize, place: usize) -> Result<(), Error> {
-        write_tuple(
-            &(&self.corners, (&self.fill, (&self.label, ()))),
-            3,
-            writer,
-            left,
-            place,
-        )
+        let fields = (&self.corners, (&self.fill, (&self.label, ())));
+        write_tuple(&fields, 3, writer, left, place)
     }
 }
 

@@ -30,13 +30,8 @@ impl SerializeAs for SearchTree {
 
     fn write(&self, writer: &mut Writer, left: usize, place: usize) -> Result<(), Error> {
         let below = follow(left)?;
-        write_tuple(
-            &(&self.left, (&self.key, (&self.right, ()))),
-            3,
-            writer,
-            below,
-            place,
-        )
+        let fields = (&self.left, (&self.key, (&self.right, ())));
+        write_tuple(&fields, 3, writer, below, place)
     }
 }
 

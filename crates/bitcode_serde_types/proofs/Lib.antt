@@ -9,6 +9,7 @@ pub mod AlikeLemmas
 pub mod KeptLemmas
 pub mod FieldsRead
 pub mod RestOfFields
+pub mod SomeFields
 pub mod EnteringLemmas
 pub mod RefusalLemmas
 pub mod NotedLemmas

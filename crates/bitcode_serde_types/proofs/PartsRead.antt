@@ -47,7 +47,7 @@ joined_nodes : (ds es : Data) → node_counts (joined_data ds es) ≡ node_count
 joined_nodes no_data es = omega arith
 joined_nodes (datum_and d ds) es = let h = joined_nodes ds es in omega (arith, h)
 
-joined_restated : (ps rs : ShapeTrees) (ds es xs ys : Data) → RestatesFields ps ds es → RestatesFields rs xs ys
+pub joined_restated : (ps rs : ShapeTrees) (ds es xs ys : Data) → RestatesFields ps ds es → RestatesFields rs xs ys
     → RestatesFields (joined ps rs) (joined_data ds xs) (joined_data es ys)
 joined_restated no_trees rs no_data no_data xs ys h k = k
 joined_restated no_trees rs no_data (datum_and e es) xs ys h k = absurd h
@@ -61,7 +61,7 @@ joined_restated (tree_and s ps) rs (datum_and d ds) (datum_and e es) xs ys h k =
 -- ---- the machine's steps
 
 module _ (at : ℕ → Place) where
-  parts_read : (ps rs : ShapeTrees) (i : ℕ) (a b c : State) (ds es : Data) → ReadsFields ps at i a ds b → ReadsFields rs at (i + tree_count ps) b es c
+  pub parts_read : (ps rs : ShapeTrees) (i : ℕ) (a b c : State) (ds es : Data) → ReadsFields ps at i a ds b → ReadsFields rs at (i + tree_count ps) b es c
       → ReadsFields (joined ps rs) at i a (joined_data ds es) c
   parts_read ps rs i a b c ds es r t = record {
     is = (are_joined ps rs ds es r.is.0 t.is.0, limited_joined ps rs ds es r.is.0 r.is.1 t.is.1);
@@ -69,7 +69,7 @@ module _ (at : ℕ → Place) where
         (runs_on (walk_fields ps at i ds) (walk_fields rs at (i + tree_count ps) es) a b c r.runs t.runs);
   }
 
-  first_stuck : (ps rs : ShapeTrees) (i : ℕ) (a : State) → ReadsNoFields ps at i a → ReadsNoFields (joined ps rs) at i a
+  pub first_stuck : (ps rs : ShapeTrees) (i : ℕ) (a : State) → ReadsNoFields ps at i a → ReadsNoFields (joined ps rs) at i a
   first_stuck no_trees rs i a stuck xs b r = stuck no_data a (fields_none at i a)
   first_stuck (tree_and s ps) rs i a stuck no_data b r = r.is.0
   first_stuck (tree_and s ps) rs i a stuck (datum_and d ds) b r =
@@ -78,7 +78,7 @@ module _ (at : ℕ → Place) where
       (λ es c t. stuck (datum_and d es) c (fields_and at s ps i a w.0 c d es (record { is = (r.is.0.0, r.is.1.0); runs = w.1 }) t)) ds b
       (record { is = (r.is.0.1, r.is.1.1); runs = w.2 })
 
-  rest_stuck : (ps rs : ShapeTrees) (i : ℕ) (a b : State) (ds : Data) → ReadsFields ps at i a ds b → ReadsNoFields rs at (i + tree_count ps) b
+  pub rest_stuck : (ps rs : ShapeTrees) (i : ℕ) (a b : State) (ds : Data) → ReadsFields ps at i a ds b → ReadsNoFields rs at (i + tree_count ps) b
       → ReadsNoFields (joined ps rs) at i a
   rest_stuck no_trees rs i a b no_data r stuck =
       let e : i + 0 ≡ i = omega arith in

@@ -6,7 +6,7 @@ use Rattle.std.proofs.lemmas.Result.{err_from_is_err_and}
 use Rattle.bitcode_memory.specs.declared.error.Error.{Error}
 use Rattle.bitcode_memory.specs.declared.error.Reason.{Reason}
 use Rattle.bitcode_memory.specs.declared.error.Reason.TheVariants.{NestedTooDeep}
-use Rattle.bitcode_shapes.specs.Datum.{Datum, unit, list, tuple, choice, data_of}
+use Rattle.bitcode_shapes.specs.Datum.{Datum, Data, unit, list, tuple, choice, data_of, list_of}
 use Rattle.bitcode_coder.specs.Spelling.{natural}
 use Rattle.bitcode_untyped.specs.Bounds.{column_free}
 use Rattle.bitcode_untyped.specs.Reads.{ReadsNoDatum}
@@ -23,14 +23,16 @@ use Rattle.bitcode_serde.proofs.ColumnLemmas.{passed_on}
 use Rattle.bitcode_serde.proofs.SerializeLemmas.{one_fault}
 use Rattle.bitcode_serde_types.specs.DeepFaults.{deep_faults}
 use Rattle.bitcode_serde_types.specs.FieldsWritten.{tree_count}
-use Rattle.bitcode_serde_types.specs.ReadingAs.{KeepsAs, ReadsAs, ReadsEachAs, FieldFound}
+use Rattle.bitcode_serde_types.specs.Joined.{joined}
+use Rattle.bitcode_serde_types.specs.ReadingAs.{KeepsAs, ReadsAs, ReadsEachAs, ReadsFieldsAs, FieldFound}
 use Rattle.bitcode_serde_types.specs.Restates.{Restates}
 use Rattle.bitcode_serde_types.proofs.FieldsRead.{FieldsKept, field_kept, field_not_kept, field_kept_at, field_not_kept_at, tuple_kept}
 use Rattle.bitcode_serde_types.proofs.RefusalLemmas.{seq_refused}
+use Rattle.bitcode_serde_types.proofs.SomeFields.{some_kept, some_not_kept}
 use Rattle.bitcode_serde_types.proofs.KeptLemmas.{no_elements, elements_more, element_refused, elements_there, list_kept, unit_kept, choice_kept, payload_refused}
 -- what these functions cite of other modules
 pub use Rattle.bitcode_serde.proofs.ValueLemmas.{continues_on, still_there}
-use Rattle.bitcode_serde_types.specs.Refusals.{IsReasonOf, IsRefusalAt, IsFieldRefusalAt}
+use Rattle.bitcode_serde_types.specs.Refusals.{IsReasonOf, IsRefusalAt, IsFieldRefusalAt, IsFieldsRefusalAt}
 pub use Rattle.bitcode_serde_types.proofs.EnteringLemmas.{columns_first, columns_behind}
 pub use Rattle.bitcode_serde_types.proofs.FieldsRead.{no_fields_kept, place_there}
 pub use Rattle.bitcode_serde_types.proofs.KeptLemmas.{kept_otherwise}
@@ -90,6 +92,18 @@ module _ {trees : ShapeTrees} {place : ℕ} {old : Reader} {before : Budget} {i 
   pub all_fields_kept : {mid : Reader} {after : Budget} → FieldsKept trees place old before i content no_trees mid after → (first : Budget) → before ≡ spend 1 first
       → {B : Type 0} (datum : B → Datum) (t : B) → datum t ≡ tuple (data_of content) → ReadsAs datum (tuple_tree trees) place old first t mid after
   all_fields_kept k first taken datum t is = tuple_kept trees place old before k datum t first is taken
+
+-- ---- several fields at once
+
+module _ (trees : ShapeTrees) {place : ℕ} {old : Reader} {before : Budget} {i : ℕ} {content : List Datum} {mid : Reader} {between : Budget} where
+  pub and_fields : {ss left : ShapeTrees} {A : Type 0} {held : A → Data} {t : A} {new : Reader} {after : Budget}
+      → ReadsFieldsAs held ss place i (tree_count trees) mid between t new after → FieldsKept trees place old before i content (joined ss left) mid between
+      → Continues mid new → FieldsKept trees place old before (i + tree_count ss) (content ++ list_of (held t)) left new after
+  and_fields {ss = ss} {left = left} {held = held} {t = t} {new = new} {after = after} some k c = some_kept trees place old before ss left k held t new after c some
+
+  pub fields_refused : (ss left : ShapeTrees) → FieldsKept trees place old before i content (joined ss left) mid between → {T : Type 0} (r : Result T Error) (e : Error)
+      → IsErrAnd r (λ y. y ≡ e) → IsFieldsRefusalAt ss place i (tree_count trees) mid e.reason → IfErr r (λ y. IsRefusalAt (tuple_tree trees) place old y.reason)
+  fields_refused ss left k r e was h = refused_on (tuple_tree trees) place old r e was (some_not_kept trees place old before ss left k e.reason h)
 
 -- ---- elements
 

@@ -103,6 +103,35 @@ impl<'a, A: DeserializeAs<'a>, R: DeserializeFields<'a>> DeserializeFields<'a> f
     }
 }
 
+/// Reads some fields of a struct or a tuple with `fields` fields, the first of which is field `i`.
+///
+/// Errors: those of [`DeserializeAs::read`].
+#[inline(always)]
+pub fn read_some<'a, R: DeserializeFields<'a>>(
+    alloc: Global,
+    reader: &mut Reader<'a>,
+    budget: &mut Budget,
+    left: usize,
+    place: usize,
+    i: usize,
+    fields: usize,
+) -> Result<R, Error>
+    requires place { place ≤ length reader.old.places.below.items }
+    requires steady { IsSteady reader.old }
+    requires within { i + tree_count (R.trees left) ≤ fields }
+    ensures continues { OnOk result (Continues reader.old reader.new) }
+    ensures there { OnOk result (place ≤ length reader.new.places.below.items) }
+    ensures steady { OnOk result (IsSteady reader.new) }
+    ensures read { IfOk result
+        (λ t. ReadsFieldsAs R.content (R.trees left) place i fields reader.old budget.old t
+        reader.new budget.new) }
+    ensures refused { IfErr result
+        (λ e. IsFieldsRefusalAt (R.trees left) place i fields reader.old e.reason) }
+{
+    let some: R = R::read_fields(alloc, reader, budget, left, place, i, fields)?;
+    Ok(some)
+}
+
 /// Reads a struct or a tuple with `count` fields.
 ///
 /// Errors: those of [`DeserializeAs::read`].

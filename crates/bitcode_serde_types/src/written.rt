@@ -6,7 +6,7 @@ pub use crate::entering::{
 };
 pub use crate::fields::write_tuple;
 pub use crate::maps::{hashed_map, ordered_map};
-pub use crate::read_fields::{DeserializeFields, read_tuple};
+pub use crate::read_fields::{DeserializeFields, read_some, read_tuple};
 pub use crate::serialize_as::SerializeAs;
 pub use crate::variants::write_variant;
 pub use bitcode_memory::error::{Error, Reason};

@@ -1,9 +1,10 @@
 -- One field or element after another. Written by `scripts/second_format`.
-use Rattle.std.proofs.Common.{rules, arith, Some, None, refl}
-use Rattle.bitcode_serde_types.specs.Written.{unit_tree, choice_tree, no_trees, tree_and, option_datum}
+use Rattle.std.proofs.Common.{rules, arith, Some, None, refl, ◌∙◌}
+use Rattle.bitcode_serde_types.specs.Written.{Datum, unit_tree, choice_tree, no_trees, tree_and, option_datum}
 use Rattle.bitcode_serde_types.proofs.StepsRead.{continues_on, no_fields_kept, place_there, refused_on, too_deep, and_field, field_refused, and_found, found_refused, all_fields_kept, variant_refused, variant_kept, unit_variant_kept}
-use Rattle.bitcode_recursive_types.specs.SearchTreeShape.{search_tree_tree, search_tree_trees, search_tree_datum}
-use Rattle.bitcode_recursive_types.proofs.SearchTreeLemmas.{search_tree_made}
+use Rattle.bitcode_recursive_types.specs.SearchTreeShape.{search_tree_tree, search_tree_trees, search_tree_step, search_tree_datum}
+use Rattle.bitcode_recursive_types.specs.declared.search_tree.SearchTree.TheFolds.{fold-roll-SearchTree}
+use Rattle.bitcode_recursive_types.proofs.SearchTreeLemmas.{search_tree_content}
 use Rattle.bitcode_recursive_types.proofs.search_tree.+search_tree.Goals as goal
 
 pub read_search_tree-returns-in_err-below-clause-refused : goal.read_search_tree-returns-in_err-below-clause-refused
@@ -44,7 +45,7 @@ read_search_tree-returns t c =
     let k1 = and_found k0 c.in_ok-place0.ensures.found c.in_ok-field0.ensures.continues c.in_ok-field0.ensures.read in
     let k2 = and_field k1 c.in_ok-field1.ensures.continues c.in_ok-field1.ensures.read in
     let k3 = and_found k2 c.in_ok-place2.ensures.found c.in_ok-right.ensures.continues c.in_ok-right.ensures.read in
-    record { continues = k3.continues; read = rw c.in_ok-below.ensures.followed (all_fields_kept k3 c.args.budget.now c.take.ensures search_tree_datum _ (search_tree_made (record { left = c.in_ok-field0.field0; key = c.in_ok-field1.field1; right = c.in_ok-right.right }) c.in_ok-field0.field0 c.in_ok-right.right refl refl)); refused = tt }
+    record { continues = k3.continues; read = rw c.in_ok-below.ensures.followed (all_fields_kept k3 c.args.budget.now c.take.ensures search_tree_datum _ (fold-roll-SearchTree Datum search_tree_step (record { left = c.in_ok-field0.field0; key = c.in_ok-field1.field1; right = c.in_ok-right.right }) ∙ search_tree_content (record { left = c.in_ok-field0.field0; key = c.in_ok-field1.field1; right = c.in_ok-right.right }))); refused = tt }
 
 pub read_search_tree_option-returns-in_err-found-clause-refused : goal.read_search_tree_option-returns-in_err-found-clause-refused
 read_search_tree_option-returns-in_err-found-clause-refused t c =
