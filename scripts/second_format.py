@@ -1,7 +1,7 @@
 """The files of recursive types in the second format: what scripts/second_format writes.
 
-A group is a type, or several that contain each other. Its module has the declarations, the impls of `SerializeAs` and
-`DeserializeAs`, and the functions that read values of the group. Since the toolchain finds no measure for a cycle
+A group is a type, or several that contain each other. Its module has the declarations, the impls of `HasShape`, `SerializeAs`
+and `DeserializeAs`, and the functions that read values of the group. Since the toolchain finds no measure for a cycle
 through a trait's method without `self`, these functions call each other directly: one for each type, one for each
 variant with several fields, and one for the lists of a type.
 """

@@ -19,7 +19,8 @@ def has_name(name, text):
 
 
 def imports(groups, text, form):
-    """The imports whose names the text has."""
+    """The imports whose names the text has, beside its comments."""
+    text = re.sub(r"(?m)^ *--.*", "", text)
     lines = []
     for module, names in groups:
         found = [name for name in names.split() if has_name(name, text)]
@@ -195,7 +196,7 @@ OF_CODE = [
 OF_LIBRARY = [
     (
         "bitcode_serde_types::written",
-        "Budget DeserializeAs DeserializeFields Error Reader Reason SerializeAs Writer enter_list enter_map "
+        "Budget DeserializeAs DeserializeFields Error HasShape Reader Reason SerializeAs Writer enter_list enter_map "
         f"enter_variant find_field follow {' '.join(sorted(MAPS.values()))} read_at read_field read_some read_tuple write_tuple "
         "write_variant",
     ),
@@ -467,7 +468,7 @@ def impls(group, one):
     read_clauses = "\n" + contract(f"({word}_tree left)", f"{word}_datum", "        ") + "    {" if of_own else " {"
     used_here = f"    ghost use {specs_}.{{{word}_tree, {word}_datum}};\n\n" if of_own else ""
     return f"""
-impl{one.parameter} SerializeAs for {one.of} {{
+impl{one.parameter} HasShape for {one.of} {{
     ghost use {specs_}.{{{word}_tree, {word}_datum, {word}_sound}};
 
     ghost tree = {{ {word}_tree }};
@@ -475,7 +476,9 @@ impl{one.parameter} SerializeAs for {one.of} {{
     ghost datum = {{ {word}_datum }};
 
     ghost sound = {{ {word}_sound }};
+}}
 
+impl{one.parameter} SerializeAs for {one.of} {{
 {cycle}    fn write(&self, writer: &mut Writer, left: usize, place: usize) -> Result<(), Error> {{
 {body}    }}
 }}

@@ -161,6 +161,7 @@ pub mod serde {
     pub use bitcode_serde_types::deserialize_as::{
         DeserializeAs, deserialize_as, deserialize_as_within,
     };
+    pub use bitcode_serde_types::has_shape::HasShape;
     pub use bitcode_serde_types::serialize_as::{SerializeAs, serialize_as};
 }
 

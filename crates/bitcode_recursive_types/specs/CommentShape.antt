@@ -1,5 +1,5 @@
 -- The shapes of `Comment`, and the content of their values. Written by `scripts/second_format`.
-use Rattle.std.specs.Prelude.{ℕ, zero, suc, map}
+use Rattle.std.specs.Prelude.{ℕ, zero, suc}
 use Rattle.bitcode_serde_types.specs.Written.{Datum, text, list, tuple, no_data, datum_and, data_of, ShapeTree, ShapeTrees, never_tree, text_tree, seq_tree, tuple_tree, no_trees, tree_and, IsSound, KeepsAll}
 use Rattle.bitcode_recursive_types.specs.declared.comment.Comment.{Comment, fold-Comment}
 use Rattle.bitcode_recursive_types.specs.declared.comment.Comment.TheOpen.{Comment-F}

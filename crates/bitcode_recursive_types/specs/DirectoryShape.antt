@@ -1,5 +1,5 @@
 -- The shapes of `Directory`, `Entry`, and the content of their values. Written by `scripts/second_format`.
-use Rattle.std.specs.Prelude.{ℕ, zero, suc, map, string_bytes}
+use Rattle.std.specs.Prelude.{ℕ, zero, suc, string_bytes}
 use Rattle.bitcode_serde_types.specs.Written.{Datum, unit, text, list, tuple, choice, no_data, datum_and, data_of, width_8, natural, ShapeTree, ShapeTrees, unit_tree, never_tree, natural_tree, text_tree, seq_tree, tuple_tree, choice_tree, no_trees, tree_and, IsSound, KeepsAll}
 use Rattle.bitcode_recursive_types.specs.declared.directory.Directory.{Directory, fold-Directory}
 use Rattle.bitcode_recursive_types.specs.declared.directory.Entry.{Entry, fold-Entry}

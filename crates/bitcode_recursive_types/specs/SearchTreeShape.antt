@@ -1,5 +1,5 @@
 -- The shapes of `SearchTree`, and the content of their values. Written by `scripts/second_format`.
-use Rattle.std.specs.Prelude.{ℕ, zero, suc, map}
+use Rattle.std.specs.Prelude.{ℕ, zero, suc}
 use Rattle.bitcode_serde_types.specs.Written.{Datum, tuple, no_data, datum_and, width_4, natural, ShapeTree, ShapeTrees, never_tree, natural_tree, option_tree, tuple_tree, no_trees, tree_and, IsSound, option_datum, KeepsAll}
 use Rattle.bitcode_recursive_types.specs.declared.search_tree.SearchTree.{SearchTree, fold-SearchTree}
 use Rattle.bitcode_recursive_types.specs.declared.search_tree.SearchTree.TheOpen.{SearchTree-F}

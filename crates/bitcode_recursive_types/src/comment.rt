@@ -4,8 +4,8 @@ ghost use Rattle.bitcode_serde_types.specs.Written.{text, column_free, IsSteady,
 ghost use Rattle.bitcode_recursive_types.specs.CommentShape.{comment_tree, comment_datum};
 
 use bitcode_serde_types::written::{
-    Budget, DeserializeAs, Error, Reader, SerializeAs, Writer, enter_list, find_field, follow,
-    read_field, write_tuple,
+    Budget, DeserializeAs, Error, HasShape, Reader, SerializeAs, Writer, enter_list, find_field,
+    follow, read_field, write_tuple,
 };
 use std::alloc::Global;
 
@@ -16,7 +16,7 @@ pub struct Comment<'a> {
     pub replies: Vec<Comment<'a>>,
 }
 
-impl<'a> SerializeAs for Comment<'a> {
+impl<'a> HasShape for Comment<'a> {
     ghost use Rattle.bitcode_recursive_types.specs.CommentShape.{comment_tree, comment_datum, comment_sound};
 
     ghost tree = { comment_tree };
@@ -24,7 +24,9 @@ impl<'a> SerializeAs for Comment<'a> {
     ghost datum = { comment_datum };
 
     ghost sound = { comment_sound };
+}
 
+impl<'a> SerializeAs for Comment<'a> {
     fn write(&self, writer: &mut Writer, left: usize, place: usize) -> Result<(), Error> {
         let below = follow(left)?;
         write_tuple(&(&self.text, (&self.replies, ())), 2, writer, below, place)

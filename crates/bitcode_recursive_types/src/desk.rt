@@ -2,8 +2,8 @@
 
 use arrayvec::{ArrayString, ArrayVec};
 use bitcode_serde_types::written::{
-    Budget, DeserializeAs, DeserializeFields, Error, Reader, SerializeAs, Writer, read_tuple,
-    write_tuple,
+    Budget, DeserializeAs, DeserializeFields, Error, HasShape, Reader, SerializeAs, Writer,
+    read_tuple, write_tuple,
 };
 use std::alloc::Global;
 use std::collections::BinaryHeap;
@@ -18,7 +18,7 @@ pub struct Desk {
     pub waiting: BinaryHeap<u32>,
 }
 
-impl SerializeAs for Desk {
+impl HasShape for Desk {
     ghost use Rattle.bitcode_recursive_types.specs.DeskShape.{desk_tree, desk_datum, desk_sound};
 
     ghost tree = { desk_tree };
@@ -26,7 +26,9 @@ impl SerializeAs for Desk {
     ghost datum = { desk_datum };
 
     ghost sound = { desk_sound };
+}
 
+impl SerializeAs for Desk {
     fn write(&self, writer: &mut Writer, left: usize, place: usize) -> Result<(), Error> {
         let fields = (&self.id, (&self.label, (&self.open, (&self.waiting, ()))));
         write_tuple(&fields, 4, writer, left, place)

@@ -5,8 +5,8 @@ ghost use Rattle.bitcode_recursive_types.specs.DirectoryShape.{directory_tree, d
 ghost use Rattle.bitcode_recursive_types.specs.DirectoryShape.{entry_datum};
 
 use bitcode_serde_types::written::{
-    Budget, DeserializeAs, Error, Reader, Reason, SerializeAs, Writer, enter_list, enter_variant,
-    find_field, follow, read_at, read_field, write_tuple, write_variant,
+    Budget, DeserializeAs, Error, HasShape, Reader, Reason, SerializeAs, Writer, enter_list,
+    enter_variant, find_field, follow, read_at, read_field, write_tuple, write_variant,
 };
 use std::alloc::Global;
 
@@ -27,7 +27,7 @@ pub enum Entry {
     Nothing,
 }
 
-impl SerializeAs for Directory {
+impl HasShape for Directory {
     ghost use Rattle.bitcode_recursive_types.specs.DirectoryShape.{directory_tree, directory_datum, directory_sound};
 
     ghost tree = { directory_tree };
@@ -35,7 +35,9 @@ impl SerializeAs for Directory {
     ghost datum = { directory_datum };
 
     ghost sound = { directory_sound };
+}
 
+impl SerializeAs for Directory {
     #[cycle(directory_write)]
     fn write(&self, writer: &mut Writer, left: usize, place: usize) -> Result<(), Error> {
         let below = follow(left)?;
@@ -59,7 +61,7 @@ impl<'a> DeserializeAs<'a> for Directory {
     }
 }
 
-impl SerializeAs for Entry {
+impl HasShape for Entry {
     ghost use Rattle.bitcode_recursive_types.specs.DirectoryShape.{entry_tree, entry_datum, entry_sound};
 
     ghost tree = { entry_tree };
@@ -67,7 +69,9 @@ impl SerializeAs for Entry {
     ghost datum = { entry_datum };
 
     ghost sound = { entry_sound };
+}
 
+impl SerializeAs for Entry {
     #[cycle(directory_write)]
     fn write(&self, writer: &mut Writer, left: usize, place: usize) -> Result<(), Error> {
         let below = follow(left)?;

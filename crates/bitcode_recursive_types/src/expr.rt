@@ -7,8 +7,8 @@ ghost use Rattle.bitcode_recursive_types.specs.ExprShape.{expr_tree, expr_datum,
 ghost use Rattle.bitcode_recursive_types.specs.ExprShape.{expr_bind_trees};
 
 use bitcode_serde_types::written::{
-    Budget, DeserializeAs, Error, Reader, Reason, SerializeAs, Writer, enter_list, enter_map,
-    enter_variant, find_field, follow, ordered_map, read_at, read_field, write_variant,
+    Budget, DeserializeAs, Error, HasShape, Reader, Reason, SerializeAs, Writer, enter_list,
+    enter_map, enter_variant, find_field, follow, ordered_map, read_at, read_field, write_variant,
 };
 use std::alloc::Global;
 use std::collections::BTreeMap;
@@ -23,7 +23,7 @@ pub enum Expr {
     Bind(BTreeMap<String, Expr>, Box<Expr>),
 }
 
-impl SerializeAs for Expr {
+impl HasShape for Expr {
     ghost use Rattle.bitcode_recursive_types.specs.ExprShape.{expr_tree, expr_datum, expr_sound};
 
     ghost tree = { expr_tree };
@@ -31,7 +31,9 @@ impl SerializeAs for Expr {
     ghost datum = { expr_datum };
 
     ghost sound = { expr_sound };
+}
 
+impl SerializeAs for Expr {
     fn write(&self, writer: &mut Writer, left: usize, place: usize) -> Result<(), Error> {
         let below = follow(left)?;
         match self {

@@ -4,8 +4,8 @@ ghost use Rattle.bitcode_serde_types.specs.Written.{IsSteady, Continues, IsRefus
 ghost use Rattle.bitcode_recursive_types.specs.NodeShape.{node_tree, node_datum};
 
 use bitcode_serde_types::written::{
-    Budget, DeserializeAs, Error, Reader, SerializeAs, Writer, enter_list, find_field, follow,
-    read_field, read_some, write_tuple,
+    Budget, DeserializeAs, Error, HasShape, Reader, SerializeAs, Writer, enter_list, find_field,
+    follow, read_field, read_some, write_tuple,
 };
 use std::alloc::Global;
 
@@ -18,7 +18,7 @@ pub struct Node {
     pub labels: Vec<(u8, bool)>,
 }
 
-impl SerializeAs for Node {
+impl HasShape for Node {
     ghost use Rattle.bitcode_recursive_types.specs.NodeShape.{node_tree, node_datum, node_sound};
 
     ghost tree = { node_tree };
@@ -26,7 +26,9 @@ impl SerializeAs for Node {
     ghost datum = { node_datum };
 
     ghost sound = { node_sound };
+}
 
+impl SerializeAs for Node {
     fn write(&self, writer: &mut Writer, left: usize, place: usize) -> Result<(), Error> {
         let below = follow(left)?;
         let fields = (

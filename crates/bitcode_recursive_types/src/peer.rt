@@ -1,8 +1,8 @@
 //! `Peer` in the second format. What is below the declarations was written by `scripts/second_format`.
 
 use bitcode_serde_types::written::{
-    Budget, DeserializeAs, DeserializeFields, Error, Reader, SerializeAs, Writer, read_tuple,
-    write_tuple,
+    Budget, DeserializeAs, DeserializeFields, Error, HasShape, Reader, SerializeAs, Writer,
+    read_tuple, write_tuple,
 };
 use std::alloc::Global;
 use std::boxed::BoxedSlice;
@@ -25,7 +25,7 @@ pub struct Peer {
     pub seen: Duration,
 }
 
-impl SerializeAs for Peer {
+impl HasShape for Peer {
     ghost use Rattle.bitcode_recursive_types.specs.PeerShape.{peer_tree, peer_datum, peer_sound};
 
     ghost tree = { peer_tree };
@@ -33,7 +33,9 @@ impl SerializeAs for Peer {
     ghost datum = { peer_datum };
 
     ghost sound = { peer_sound };
+}
 
+impl SerializeAs for Peer {
     fn write(&self, writer: &mut Writer, left: usize, place: usize) -> Result<(), Error> {
         let fields = (
             &self.address,

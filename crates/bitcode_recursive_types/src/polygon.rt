@@ -2,7 +2,7 @@
 //! `scripts/second_format`.
 
 use bitcode_serde_types::written::{
-    Budget, DeserializeAs, DeserializeFields, Error, Reader, Reason, SerializeAs, Writer,
+    Budget, DeserializeAs, DeserializeFields, Error, HasShape, Reader, Reason, SerializeAs, Writer,
     enter_variant, read_at, read_tuple, write_tuple, write_variant,
 };
 use std::alloc::Global;
@@ -31,7 +31,7 @@ pub enum Fill {
     Pattern(String, i64),
 }
 
-impl SerializeAs for Polygon {
+impl HasShape for Polygon {
     ghost use Rattle.bitcode_recursive_types.specs.PolygonShape.{polygon_tree, polygon_datum, polygon_sound};
 
     ghost tree = { polygon_tree };
@@ -39,7 +39,9 @@ impl SerializeAs for Polygon {
     ghost datum = { polygon_datum };
 
     ghost sound = { polygon_sound };
+}
 
+impl SerializeAs for Polygon {
     fn write(&self, writer: &mut Writer, left: usize, place: usize) -> Result<(), Error> {
         let fields = (&self.corners, (&self.fill, (&self.label, ())));
         write_tuple(&fields, 3, writer, left, place)
@@ -70,7 +72,7 @@ impl<'a> DeserializeAs<'a> for Polygon {
     }
 }
 
-impl SerializeAs for Corner {
+impl HasShape for Corner {
     ghost use Rattle.bitcode_recursive_types.specs.PolygonShape.{corner_tree, corner_datum, corner_sound};
 
     ghost tree = { corner_tree };
@@ -78,7 +80,9 @@ impl SerializeAs for Corner {
     ghost datum = { corner_datum };
 
     ghost sound = { corner_sound };
+}
 
+impl SerializeAs for Corner {
     fn write(&self, writer: &mut Writer, left: usize, place: usize) -> Result<(), Error> {
         write_tuple(&(&self.x, (&self.y, ())), 2, writer, left, place)
     }
@@ -102,7 +106,7 @@ impl<'a> DeserializeAs<'a> for Corner {
     }
 }
 
-impl SerializeAs for Fill {
+impl HasShape for Fill {
     ghost use Rattle.bitcode_recursive_types.specs.PolygonShape.{fill_tree, fill_datum, fill_sound};
 
     ghost tree = { fill_tree };
@@ -110,7 +114,9 @@ impl SerializeAs for Fill {
     ghost datum = { fill_datum };
 
     ghost sound = { fill_sound };
+}
 
+impl SerializeAs for Fill {
     fn write(&self, writer: &mut Writer, left: usize, place: usize) -> Result<(), Error> {
         match self {
             Fill::Nothing => { write_variant(&(), 0, writer, left, place) }

@@ -5,8 +5,8 @@ ghost use Rattle.bitcode_serde_types.specs.Written.{ReadsAs};
 ghost use Rattle.bitcode_recursive_types.specs.SearchTreeShape.{search_tree_tree, search_tree_datum};
 
 use bitcode_serde_types::written::{
-    Budget, DeserializeAs, Error, Reader, Reason, SerializeAs, Writer, enter_variant, find_field,
-    follow, read_field, write_tuple,
+    Budget, DeserializeAs, Error, HasShape, Reader, Reason, SerializeAs, Writer, enter_variant,
+    find_field, follow, read_field, write_tuple,
 };
 use std::alloc::Global;
 
@@ -18,7 +18,7 @@ pub struct SearchTree {
     pub right: Option<Box<SearchTree>>,
 }
 
-impl SerializeAs for SearchTree {
+impl HasShape for SearchTree {
     ghost use Rattle.bitcode_recursive_types.specs.SearchTreeShape.{search_tree_tree, search_tree_datum};
     ghost use Rattle.bitcode_recursive_types.specs.SearchTreeShape.{search_tree_sound};
 
@@ -27,7 +27,9 @@ impl SerializeAs for SearchTree {
     ghost datum = { search_tree_datum };
 
     ghost sound = { search_tree_sound };
+}
 
+impl SerializeAs for SearchTree {
     fn write(&self, writer: &mut Writer, left: usize, place: usize) -> Result<(), Error> {
         let below = follow(left)?;
         let fields = (&self.left, (&self.key, (&self.right, ())));

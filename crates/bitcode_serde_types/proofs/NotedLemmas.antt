@@ -14,7 +14,7 @@ use Rattle.bitcode_coder.specs.Transposition.{length_entry}
 use Rattle.bitcode_untyped.specs.Machine.{State, Takes}
 use Rattle.bitcode_untyped.specs.Nodes.{node_count}
 use Rattle.bitcode_untyped.specs.Reads.{ReadsDatum}
-use Rattle.bitcode_untyped.specs.ShapeTree.{Note, any_order, admits, ShapeTree, seq_tree, noted_tree, text_tree, IsAdmitted}
+use Rattle.bitcode_untyped.specs.ShapeTree.{Note, any_order, admits, ShapeTree, seq_tree, noted_tree, text_tree}
 use Rattle.bitcode_untyped.specs.Walk.{Place, use_at, length_kind}
 use Rattle.bitcode_untyped.proofs.OnceLemmas.{takes_one}
 use Rattle.bitcode_untyped.proofs.ReadLemmas.{noted_read}

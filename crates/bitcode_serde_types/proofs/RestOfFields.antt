@@ -2,12 +2,10 @@
 use Rattle.std.proofs.Common.{◌≡◌, ℕ, ◌+◌, inl, inr, refl, ap, sym, subst, ◌∙◌}
 use Rattle.bitcode_memory.specs.declared.error.Reason.{Reason}
 use Rattle.bitcode_shapes.specs.Datum.{Datum, Data, no_data, datum_and, tuple}
-use Rattle.bitcode_untyped.specs.Machine.{State, Takes}
+use Rattle.bitcode_untyped.specs.Machine.{Takes}
 use Rattle.bitcode_untyped.specs.Nodes.{node_count, node_counts}
-use Rattle.bitcode_untyped.specs.Reads.{ReadsFields}
 use Rattle.bitcode_untyped.specs.Runs.{Runs}
 use Rattle.bitcode_untyped.specs.ShapeTree.{ShapeTree, ShapeTrees, no_trees, tree_and, tuple_tree}
-use Rattle.bitcode_untyped.specs.Walk.{Place, field_place}
 use Rattle.bitcode_untyped.proofs.ReadLemmas.{fields_none, fields_and, fields_stuck_first, fields_stuck_rest, tuple_read, tuple_stuck}
 use Rattle.bitcode_serde.specs.Budget.{spend, IsLeft}
 use Rattle.bitcode_serde.specs.ReadingValues.{Continues, field_at}

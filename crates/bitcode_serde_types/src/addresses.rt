@@ -8,6 +8,7 @@ ghost use Rattle.bitcode_shapes.specs.Addresses.{ip_family, socket_family};
 use crate::deserialize_as::DeserializeAs;
 use crate::entering::read_at;
 use crate::fields::write_tuple;
+use crate::has_shape::HasShape;
 use crate::serialize_as::SerializeAs;
 use crate::variants::write_variant;
 use bitcode_memory::error::Error;
@@ -18,13 +19,15 @@ use bitcode_shapes::shaped::Shaped;
 use std::alloc::Global;
 use std::net::{IpAddr, Ipv4Addr, Ipv6Addr, SocketAddr, SocketAddrV4, SocketAddrV6};
 
+impl HasShape for Ipv4Addr {
+    ghost tree = { ⟦<[u8; 4] as HasShape>⟧.tree };
+
+    ghost datum = { λ a. ⟦<[u8; 4] as HasShape>⟧.datum (ipv4_octets a) };
+
+    ghost sound = { ⟦<[u8; 4] as HasShape>⟧.sound };
+}
+
 impl SerializeAs for Ipv4Addr {
-    ghost tree = { ⟦<[u8; 4] as SerializeAs>⟧.tree };
-
-    ghost datum = { λ a. ⟦<[u8; 4] as SerializeAs>⟧.datum (ipv4_octets a) };
-
-    ghost sound = { ⟦<[u8; 4] as SerializeAs>⟧.sound };
-
     fn write(&self, writer: &mut Writer, left: usize, place: usize) -> Result<(), Error> {
         self.octets().write(writer, left, place)
     }
@@ -47,13 +50,15 @@ impl<'a> DeserializeAs<'a> for Ipv4Addr {
     }
 }
 
+impl HasShape for Ipv6Addr {
+    ghost tree = { ⟦<[u8; 16] as HasShape>⟧.tree };
+
+    ghost datum = { λ a. ⟦<[u8; 16] as HasShape>⟧.datum (ipv6_octets a) };
+
+    ghost sound = { ⟦<[u8; 16] as HasShape>⟧.sound };
+}
+
 impl SerializeAs for Ipv6Addr {
-    ghost tree = { ⟦<[u8; 16] as SerializeAs>⟧.tree };
-
-    ghost datum = { λ a. ⟦<[u8; 16] as SerializeAs>⟧.datum (ipv6_octets a) };
-
-    ghost sound = { ⟦<[u8; 16] as SerializeAs>⟧.sound };
-
     fn write(&self, writer: &mut Writer, left: usize, place: usize) -> Result<(), Error> {
         self.octets().write(writer, left, place)
     }
@@ -77,13 +82,15 @@ impl<'a> DeserializeAs<'a> for Ipv6Addr {
     }
 }
 
+impl HasShape for IpAddr {
+    ghost tree = { ⟦<Result<Ipv4Addr, Ipv6Addr> as HasShape>⟧.tree };
+
+    ghost datum = { λ a. ⟦<Result<Ipv4Addr, Ipv6Addr> as HasShape>⟧.datum (ip_family a) };
+
+    ghost sound = { ⟦<Result<Ipv4Addr, Ipv6Addr> as HasShape>⟧.sound };
+}
+
 impl SerializeAs for IpAddr {
-    ghost tree = { ⟦<Result<Ipv4Addr, Ipv6Addr> as SerializeAs>⟧.tree };
-
-    ghost datum = { λ a. ⟦<Result<Ipv4Addr, Ipv6Addr> as SerializeAs>⟧.datum (ip_family a) };
-
-    ghost sound = { ⟦<Result<Ipv4Addr, Ipv6Addr> as SerializeAs>⟧.sound };
-
     fn write(&self, writer: &mut Writer, left: usize, place: usize) -> Result<(), Error> {
         match self {
             IpAddr::V4(address) => write_variant(address, 0, writer, left, place),
@@ -112,13 +119,15 @@ impl<'a> DeserializeAs<'a> for IpAddr {
     }
 }
 
+impl HasShape for SocketAddrV4 {
+    ghost tree = { ⟦<(Ipv4Addr, u16) as HasShape>⟧.tree };
+
+    ghost datum = { λ a. ⟦<(Ipv4Addr, u16) as HasShape>⟧.datum (v4_ip a, v4_port a) };
+
+    ghost sound = { ⟦<(Ipv4Addr, u16) as HasShape>⟧.sound };
+}
+
 impl SerializeAs for SocketAddrV4 {
-    ghost tree = { ⟦<(Ipv4Addr, u16) as SerializeAs>⟧.tree };
-
-    ghost datum = { λ a. ⟦<(Ipv4Addr, u16) as SerializeAs>⟧.datum (v4_ip a, v4_port a) };
-
-    ghost sound = { ⟦<(Ipv4Addr, u16) as SerializeAs>⟧.sound };
-
     fn write(&self, writer: &mut Writer, left: usize, place: usize) -> Result<(), Error> {
         write_tuple(&(self.ip(), (&self.port(), ())), 2, writer, left, place)
     }
@@ -143,13 +152,15 @@ impl<'a> DeserializeAs<'a> for SocketAddrV4 {
 }
 
 // The flow information and the scope are not written, and are 0 in what is read.
+impl HasShape for SocketAddrV6 {
+    ghost tree = { ⟦<(Ipv6Addr, u16) as HasShape>⟧.tree };
+
+    ghost datum = { λ a. ⟦<(Ipv6Addr, u16) as HasShape>⟧.datum (v6_ip a, v6_port a) };
+
+    ghost sound = { ⟦<(Ipv6Addr, u16) as HasShape>⟧.sound };
+}
+
 impl SerializeAs for SocketAddrV6 {
-    ghost tree = { ⟦<(Ipv6Addr, u16) as SerializeAs>⟧.tree };
-
-    ghost datum = { λ a. ⟦<(Ipv6Addr, u16) as SerializeAs>⟧.datum (v6_ip a, v6_port a) };
-
-    ghost sound = { ⟦<(Ipv6Addr, u16) as SerializeAs>⟧.sound };
-
     fn write(&self, writer: &mut Writer, left: usize, place: usize) -> Result<(), Error> {
         write_tuple(&(self.ip(), (&self.port(), ())), 2, writer, left, place)
     }
@@ -173,14 +184,16 @@ impl<'a> DeserializeAs<'a> for SocketAddrV6 {
     }
 }
 
-impl SerializeAs for SocketAddr {
-    ghost tree = { ⟦<Result<SocketAddrV4, SocketAddrV6> as SerializeAs>⟧.tree };
+impl HasShape for SocketAddr {
+    ghost tree = { ⟦<Result<SocketAddrV4, SocketAddrV6> as HasShape>⟧.tree };
 
-    ghost datum = { λ a. ⟦<Result<SocketAddrV4, SocketAddrV6> as SerializeAs>⟧.datum
+    ghost datum = { λ a. ⟦<Result<SocketAddrV4, SocketAddrV6> as HasShape>⟧.datum
         (socket_family a) };
 
-    ghost sound = { ⟦<Result<SocketAddrV4, SocketAddrV6> as SerializeAs>⟧.sound };
+    ghost sound = { ⟦<Result<SocketAddrV4, SocketAddrV6> as HasShape>⟧.sound };
+}
 
+impl SerializeAs for SocketAddr {
     fn write(&self, writer: &mut Writer, left: usize, place: usize) -> Result<(), Error> {
         match self {
             SocketAddr::V4(address) => write_variant(address, 0, writer, left, place),

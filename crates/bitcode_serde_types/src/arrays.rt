@@ -12,6 +12,7 @@ ghost use Rattle.bitcode_serde_types.specs.Refusals.{IsRefusalAt};
 use crate::deserialize_as::DeserializeAs;
 use crate::entering::read_field;
 use crate::fields::SerializeFields;
+use crate::has_shape::HasShape;
 use crate::serialize_as::SerializeAs;
 use bitcode_memory::error::Error;
 use bitcode_serde::budget::Budget;
@@ -38,13 +39,15 @@ fn write_alike<T: SerializeAs>(
     Ok(())
 }
 
-impl<T: SerializeAs, const N: usize> SerializeAs for [T; N] {
+impl<T: HasShape, const N: usize> HasShape for [T; N] {
     ghost tree = { λ left. array_tree N (T.tree left) };
 
     ghost datum = { array_datum T.datum };
 
     ghost sound = { λ left. repeated_sound N (T.tree left) (T.sound left) };
+}
 
+impl<T: SerializeAs, const N: usize> SerializeAs for [T; N] {
     fn write(&self, writer: &mut Writer, left: usize, place: usize) -> Result<(), Error> {
         write_alike(self.as_slice(), writer, left, place)
     }

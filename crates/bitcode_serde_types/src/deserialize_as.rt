@@ -10,7 +10,8 @@ ghost use Rattle.bitcode_serde_types.specs.ReadingAs.{KeepsAs, ReadsAs, SpellsAs
 ghost use Rattle.bitcode_serde_types.specs.Refusals.{IsRefusalAt, IsRefusalWithin, IsWholeRefusal};
 ghost use Rattle.bitcode_serde_types.specs.Restates.{Restates, KeepsAll};
 
-use crate::serialize_as::{DEEPEST, SerializeAs};
+use crate::has_shape::HasShape;
+use crate::serialize_as::DEEPEST;
 use bitcode_memory::error::{Error, Reason};
 use bitcode_memory::refuse::err;
 use bitcode_serde::budget::Budget;
@@ -18,7 +19,7 @@ use bitcode_serde::reader::Reader;
 use std::alloc::Global;
 
 /// A type whose values are read from the places of its shape. They may borrow texts from the input.
-pub trait DeserializeAs<'a>: SerializeAs + Drop {
+pub trait DeserializeAs<'a>: HasShape + Drop {
     /// Whether values of the type have no entry in any column, as `()` has none.
     fn is_free() -> bool
         ensures { (left : ℕ) → result ≡ column_free (Self.tree left) };

@@ -9,6 +9,7 @@ ghost use Rattle.bitcode_serde_types.specs.Durations.{duration_datum, duration_s
 use crate::deserialize_as::DeserializeAs;
 use crate::entering::read_at;
 use crate::fields::write_tuple;
+use crate::has_shape::HasShape;
 use crate::read_leaves::read_number;
 use crate::serialize_as::SerializeAs;
 use bitcode_memory::error::{Error, Reason};
@@ -20,13 +21,15 @@ use bitcode_shapes::nanosecond::Nanosecond;
 use std::alloc::Global;
 use std::time::Duration;
 
-impl SerializeAs for Nanosecond {
+impl HasShape for Nanosecond {
     ghost tree = { λ left. nanosecond_tree };
 
     ghost datum = { λ n. natural n.nanos };
 
     ghost sound = { λ left. width_4 };
+}
 
+impl SerializeAs for Nanosecond {
     fn write(&self, writer: &mut Writer, left: usize, place: usize) -> Result<(), Error> {
         self.into_inner().write(writer, left, place)
     }
@@ -52,13 +55,15 @@ impl<'a> DeserializeAs<'a> for Nanosecond {
     }
 }
 
-impl SerializeAs for Duration {
+impl HasShape for Duration {
     ghost tree = { λ left. duration_tree };
 
     ghost datum = { duration_datum };
 
     ghost sound = { duration_sound };
+}
 
+impl SerializeAs for Duration {
     fn write(&self, writer: &mut Writer, left: usize, place: usize) -> Result<(), Error> {
         write_tuple(
             &(&self.as_secs(), (&self.subsec_nanos(), ())),

@@ -1,29 +1,21 @@
 //! Writing the fields of structs and tuples.
 #![tactic(auto)]
 
-ghost use Rattle.std.specs.Prelude.{◌≡◌, ℕ, ◌+◌, ◌≤◌, length};
-ghost use Rattle.bitcode_shapes.specs.Datum.{Data, no_data, datum_and, tuple};
-ghost use Rattle.bitcode_untyped.specs.ShapeTree.{ShapeTrees, no_trees, tree_and, tuple_tree, AreSound};
+ghost use Rattle.std.specs.Prelude.{◌≡◌, ◌+◌, ◌≤◌, length};
+ghost use Rattle.bitcode_shapes.specs.Datum.{tuple};
+ghost use Rattle.bitcode_untyped.specs.ShapeTree.{tuple_tree};
 ghost use Rattle.bitcode_serde.specs.Serializing.{Outcome};
 ghost use Rattle.bitcode_serde_types.specs.DeepFaults.{deep_faults_of_fields};
 ghost use Rattle.bitcode_serde_types.specs.FieldsWritten.{tree_count, FieldsOutcome};
 
+use crate::has_shape::HasShapes;
 use crate::serialize_as::SerializeAs;
 use bitcode_memory::error::Error;
 use bitcode_serde::walk::field_below;
 use bitcode_serde::writer::Writer;
 
 /// The fields of a struct or a tuple, from one of them on: `()`, or a field and those behind it.
-pub trait SerializeFields {
-    // the shape of each field, by how many references may be followed
-    ghost trees: { ℕ → ShapeTrees };
-
-    // the content of each field
-    ghost content: { Self → Data };
-
-    // Their columns are such as there are.
-    ghost sound: { (left : ℕ) → AreSound (trees left) };
-
+pub trait SerializeFields: HasShapes {
     /// Writes the fields of a value with `fields` fields at a place, the first of which is field `i`.
     ///
     /// Errors: `nested too deep` only for one reference too many, and `out of memory`.
@@ -36,18 +28,12 @@ pub trait SerializeFields {
         fields: usize,
     ) -> Result<(), Error>
         requires place { place ≤ length writer.old.places.below.items }
-        requires within { i + tree_count (trees left) ≤ fields }
-        ensures { FieldsOutcome writer.old (trees left) place i fields (content self.now)
-            (deep_faults_of_fields (trees left) (content self.now)) result writer.new };
+        requires within { i + tree_count (Self.trees left) ≤ fields }
+        ensures { FieldsOutcome writer.old (Self.trees left) place i fields (Self.content self.now)
+            (deep_faults_of_fields (Self.trees left) (Self.content self.now)) result writer.new };
 }
 
 impl SerializeFields for () {
-    ghost trees = { λ left. no_trees };
-
-    ghost content = { λ u. no_data };
-
-    ghost sound = { λ left. tt };
-
     #[inline(always)]
     fn write_fields(
         &self,
@@ -62,12 +48,6 @@ impl SerializeFields for () {
 }
 
 impl<A: SerializeAs, R: SerializeFields> SerializeFields for (A, R) {
-    ghost trees = { λ left. tree_and (A.tree left) (R.trees left) };
-
-    ghost content = { λ t. datum_and (A.datum t.0) (R.content t.1) };
-
-    ghost sound = { λ left. (A.sound left, R.sound left) };
-
     #[inline(always)]
     fn write_fields(
         &self,

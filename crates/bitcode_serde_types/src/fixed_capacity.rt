@@ -6,6 +6,7 @@ ghost use Rattle.bitcode_serde_types.specs.Limited.{array_string_datum, array_st
 ghost use Rattle.bitcode_serde_types.specs.Lists.{list_datum};
 
 use crate::deserialize_as::DeserializeAs;
+use crate::has_shape::HasShape;
 use crate::leaves::write_text;
 use crate::lists::write_lent;
 use crate::read_leaves::read_text;
@@ -20,13 +21,15 @@ use bitcode_serde::writer::Writer;
 use std::alloc::Global;
 use std::default::Default;
 
-impl<const N: usize> SerializeAs for ArrayString<N> {
+impl<const N: usize> HasShape for ArrayString<N> {
     ghost tree = { λ left. array_string_tree N };
 
     ghost datum = { array_string_datum };
 
     ghost sound = { λ left. (tt, refl) };
+}
 
+impl<const N: usize> SerializeAs for ArrayString<N> {
     fn write(&self, writer: &mut Writer, _left: usize, place: usize) -> Result<(), Error> {
         write_text(self.as_str(), writer, place)
     }
@@ -52,13 +55,15 @@ impl<'a, const N: usize> DeserializeAs<'a> for ArrayString<N> {
     }
 }
 
-impl<T: SerializeAs, const N: usize> SerializeAs for ArrayVec<T, N> {
+impl<T: HasShape, const N: usize> HasShape for ArrayVec<T, N> {
     ghost tree = { λ left. array_vec_tree N (T.tree left) };
 
     ghost datum = { λ v. list_datum T.datum v.items };
 
     ghost sound = { λ left. (T.sound left, refl) };
+}
 
+impl<T: SerializeAs, const N: usize> SerializeAs for ArrayVec<T, N> {
     fn write(&self, writer: &mut Writer, left: usize, place: usize) -> Result<(), Error> {
         write_lent(self.as_slice().iter(), self.len(), writer, left, place)
     }

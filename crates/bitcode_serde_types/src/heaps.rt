@@ -8,6 +8,7 @@ ghost use Rattle.bitcode_serde_types.specs.Lists.{list_datum};
 
 use crate::deserialize_as::DeserializeAs;
 use crate::entering::read_at;
+use crate::has_shape::HasShape;
 use crate::lists::write_lent;
 use crate::serialize_as::SerializeAs;
 use bitcode_memory::error::Error;
@@ -18,13 +19,15 @@ use std::alloc::Global;
 use std::cmp::Ord;
 use std::collections::BinaryHeap;
 
-impl<T: SerializeAs + Ord> SerializeAs for BinaryHeap<T> {
+impl<T: HasShape + Ord> HasShape for BinaryHeap<T> {
     ghost tree = { λ left. heap_tree (T.tree left) };
 
     ghost datum = { λ h. list_datum T.datum (heap_items h) };
 
     ghost sound = { λ left. (T.sound left, refl) };
+}
 
+impl<T: SerializeAs + Ord> SerializeAs for BinaryHeap<T> {
     fn write(&self, writer: &mut Writer, left: usize, place: usize) -> Result<(), Error> {
         write_lent(self.as_slice().iter(), self.len(), writer, left, place)
     }

@@ -8,6 +8,7 @@ mod durations;
 pub mod entering;
 pub mod fields;
 mod fixed_capacity;
+pub mod has_shape;
 mod heaps;
 pub mod keys;
 mod leaves;

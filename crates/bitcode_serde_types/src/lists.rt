@@ -15,6 +15,7 @@ ghost use Rattle.bitcode_serde_types.specs.Lists.{list_datum};
 
 use crate::deserialize_as::DeserializeAs;
 use crate::entering::read_at;
+use crate::has_shape::HasShape;
 use crate::serialize_as::SerializeAs;
 use bitcode_memory::error::Error;
 use bitcode_serde::budget::Budget;
@@ -85,25 +86,29 @@ pub(crate) fn write_lent<'b, T: SerializeAs + 'b, L: Lends<'b, T>>(
     Ok(())
 }
 
-impl<'b, T: SerializeAs> SerializeAs for &'b [T] {
+impl<'b, T: HasShape> HasShape for &'b [T] {
     ghost tree = { λ left. seq_tree (T.tree left) };
 
     ghost datum = { λ l. list_datum T.datum l.now };
 
     ghost sound = { T.sound };
+}
 
+impl<'b, T: SerializeAs> SerializeAs for &'b [T] {
     fn write(&self, writer: &mut Writer, left: usize, place: usize) -> Result<(), Error> {
         write_lent((*self).iter(), self.len(), writer, left, place)
     }
 }
 
-impl<T: SerializeAs> SerializeAs for BoxedSlice<T> {
+impl<T: HasShape> HasShape for BoxedSlice<T> {
     ghost tree = { λ left. seq_tree (T.tree left) };
 
     ghost datum = { λ l. list_datum T.datum (boxed_slice_items l) };
 
     ghost sound = { T.sound };
+}
 
+impl<T: SerializeAs> SerializeAs for BoxedSlice<T> {
     fn write(&self, writer: &mut Writer, left: usize, place: usize) -> Result<(), Error> {
         write_lent(self.as_slice().iter(), self.len(), writer, left, place)
     }
@@ -126,13 +131,15 @@ impl<'a, T: DeserializeAs<'a>> DeserializeAs<'a> for BoxedSlice<T> {
     }
 }
 
-impl<T: SerializeAs> SerializeAs for RcSlice<T> {
+impl<T: HasShape> HasShape for RcSlice<T> {
     ghost tree = { λ left. seq_tree (T.tree left) };
 
     ghost datum = { λ l. list_datum T.datum (rc_slice_items l) };
 
     ghost sound = { T.sound };
+}
 
+impl<T: SerializeAs> SerializeAs for RcSlice<T> {
     fn write(&self, writer: &mut Writer, left: usize, place: usize) -> Result<(), Error> {
         write_lent(self.as_slice().iter(), self.len(), writer, left, place)
     }
@@ -155,13 +162,15 @@ impl<'a, T: DeserializeAs<'a>> DeserializeAs<'a> for RcSlice<T> {
     }
 }
 
-impl<T: SerializeAs> SerializeAs for ArcSlice<T> {
+impl<T: HasShape> HasShape for ArcSlice<T> {
     ghost tree = { λ left. seq_tree (T.tree left) };
 
     ghost datum = { λ l. list_datum T.datum (arc_slice_items l) };
 
     ghost sound = { T.sound };
+}
 
+impl<T: SerializeAs> SerializeAs for ArcSlice<T> {
     fn write(&self, writer: &mut Writer, left: usize, place: usize) -> Result<(), Error> {
         write_lent(self.as_slice().iter(), self.len(), writer, left, place)
     }
@@ -184,13 +193,15 @@ impl<'a, T: DeserializeAs<'a>> DeserializeAs<'a> for ArcSlice<T> {
     }
 }
 
-impl<T: SerializeAs> SerializeAs for VecDeque<T> {
+impl<T: HasShape> HasShape for VecDeque<T> {
     ghost tree = { λ left. seq_tree (T.tree left) };
 
     ghost datum = { λ l. list_datum T.datum (deque_items l) };
 
     ghost sound = { T.sound };
+}
 
+impl<T: SerializeAs> SerializeAs for VecDeque<T> {
     fn write(&self, writer: &mut Writer, left: usize, place: usize) -> Result<(), Error> {
         write_lent(self.iter(), self.len(), writer, left, place)
     }
@@ -213,13 +224,15 @@ impl<'a, T: DeserializeAs<'a>> DeserializeAs<'a> for VecDeque<T> {
     }
 }
 
-impl<T: SerializeAs> SerializeAs for LinkedList<T> {
+impl<T: HasShape> HasShape for LinkedList<T> {
     ghost tree = { λ left. seq_tree (T.tree left) };
 
     ghost datum = { λ l. list_datum T.datum l };
 
     ghost sound = { T.sound };
+}
 
+impl<T: SerializeAs> SerializeAs for LinkedList<T> {
     fn write(&self, writer: &mut Writer, left: usize, place: usize) -> Result<(), Error> {
         write_lent(self.iter(), self.len(), writer, left, place)
     }

@@ -12,6 +12,7 @@ ghost use Rattle.bitcode_serde_types.specs.Restates.{AreEntriesOf};
 
 use crate::deserialize_as::DeserializeAs;
 use crate::entering::{Pairs, enter_map};
+use crate::has_shape::HasShape;
 use crate::keys::KeyAs;
 use crate::serialize_as::SerializeAs;
 use bitcode_memory::error::{Error, Reason};
@@ -45,13 +46,15 @@ pub fn begin_map(writer: &mut Writer, count: usize, place: usize) -> Result<Pair
     })
 }
 
-impl<K: KeyAs, V: SerializeAs> SerializeAs for BTreeMap<K, V> {
+impl<K: KeyAs, V: HasShape> HasShape for BTreeMap<K, V> {
     ghost tree = { λ left. map_tree (K.tree left) (V.tree left) };
 
     ghost datum = { λ m. map_datum K.datum V.datum m.entries };
 
     ghost sound = { λ left. (K.sound left, V.sound left) };
+}
 
+impl<K: KeyAs, V: SerializeAs> SerializeAs for BTreeMap<K, V> {
     fn write(&self, writer: &mut Writer, left: usize, place: usize) -> Result<(), Error> {
         let places = begin_map(writer, self.len(), place)?;
         for (key, value) in self {
@@ -62,13 +65,15 @@ impl<K: KeyAs, V: SerializeAs> SerializeAs for BTreeMap<K, V> {
     }
 }
 
-impl<K: KeyAs + Hash, V: SerializeAs> SerializeAs for HashMap<K, V> {
+impl<K: KeyAs + Hash, V: HasShape> HasShape for HashMap<K, V> {
     ghost tree = { λ left. map_tree (K.tree left) (V.tree left) };
 
     ghost datum = { λ m. map_datum K.datum V.datum m.entries };
 
     ghost sound = { λ left. (K.sound left, V.sound left) };
+}
 
+impl<K: KeyAs + Hash, V: SerializeAs> SerializeAs for HashMap<K, V> {
     fn write(&self, writer: &mut Writer, left: usize, place: usize) -> Result<(), Error> {
         let places = begin_map(writer, self.len(), place)?;
         for (key, value) in self {

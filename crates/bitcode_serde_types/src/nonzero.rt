@@ -11,6 +11,7 @@ ghost use Rattle.bitcode_coder.specs.Spelling.{natural};
 ghost use Rattle.bitcode_serde_types.specs.Checked.{nonzero_natural_tree, nonzero_integer_tree};
 
 use crate::deserialize_as::DeserializeAs;
+use crate::has_shape::HasShape;
 use crate::read_leaves::read_number;
 use crate::serialize_as::SerializeAs;
 use bitcode_memory::error::{Error, Reason};
@@ -24,13 +25,15 @@ use std::num::{
     NonZeroU16, NonZeroU32, NonZeroU64, NonZeroU128, NonZeroUsize,
 };
 
-impl SerializeAs for NonZeroU8 {
+impl HasShape for NonZeroU8 {
     ghost tree = { λ left. nonzero_natural_tree 1 };
 
     ghost datum = { λ n. natural (non_zero_u8_get n) };
 
     ghost sound = { λ left. width_1 };
+}
 
+impl SerializeAs for NonZeroU8 {
     #[inline(always)]
     fn write(&self, writer: &mut Writer, left: usize, place: usize) -> Result<(), Error> {
         self.get().write(writer, left, place)
@@ -58,13 +61,15 @@ impl<'a> DeserializeAs<'a> for NonZeroU8 {
     }
 }
 
-impl SerializeAs for NonZeroU16 {
+impl HasShape for NonZeroU16 {
     ghost tree = { λ left. nonzero_natural_tree 2 };
 
     ghost datum = { λ n. natural (non_zero_u16_get n) };
 
     ghost sound = { λ left. width_2 };
+}
 
+impl SerializeAs for NonZeroU16 {
     #[inline(always)]
     fn write(&self, writer: &mut Writer, left: usize, place: usize) -> Result<(), Error> {
         self.get().write(writer, left, place)
@@ -92,13 +97,15 @@ impl<'a> DeserializeAs<'a> for NonZeroU16 {
     }
 }
 
-impl SerializeAs for NonZeroU32 {
+impl HasShape for NonZeroU32 {
     ghost tree = { λ left. nonzero_natural_tree 4 };
 
     ghost datum = { λ n. natural (non_zero_u32_get n) };
 
     ghost sound = { λ left. width_4 };
+}
 
+impl SerializeAs for NonZeroU32 {
     #[inline(always)]
     fn write(&self, writer: &mut Writer, left: usize, place: usize) -> Result<(), Error> {
         self.get().write(writer, left, place)
@@ -126,13 +133,15 @@ impl<'a> DeserializeAs<'a> for NonZeroU32 {
     }
 }
 
-impl SerializeAs for NonZeroU64 {
+impl HasShape for NonZeroU64 {
     ghost tree = { λ left. nonzero_natural_tree 8 };
 
     ghost datum = { λ n. natural (non_zero_u64_get n) };
 
     ghost sound = { λ left. width_8 };
+}
 
+impl SerializeAs for NonZeroU64 {
     #[inline(always)]
     fn write(&self, writer: &mut Writer, left: usize, place: usize) -> Result<(), Error> {
         self.get().write(writer, left, place)
@@ -160,13 +169,15 @@ impl<'a> DeserializeAs<'a> for NonZeroU64 {
     }
 }
 
-impl SerializeAs for NonZeroU128 {
+impl HasShape for NonZeroU128 {
     ghost tree = { λ left. nonzero_natural_tree 16 };
 
     ghost datum = { λ n. natural (non_zero_u128_get n) };
 
     ghost sound = { λ left. width_16 };
+}
 
+impl SerializeAs for NonZeroU128 {
     #[inline(always)]
     fn write(&self, writer: &mut Writer, left: usize, place: usize) -> Result<(), Error> {
         self.get().write(writer, left, place)
@@ -194,13 +205,15 @@ impl<'a> DeserializeAs<'a> for NonZeroU128 {
     }
 }
 
-impl SerializeAs for NonZeroUsize {
+impl HasShape for NonZeroUsize {
     ghost tree = { λ left. nonzero_natural_tree 8 };
 
     ghost datum = { λ n. natural (non_zero_usize_get n) };
 
     ghost sound = { λ left. width_8 };
+}
 
+impl SerializeAs for NonZeroUsize {
     #[inline(always)]
     fn write(&self, writer: &mut Writer, left: usize, place: usize) -> Result<(), Error> {
         self.get().write(writer, left, place)
@@ -228,13 +241,15 @@ impl<'a> DeserializeAs<'a> for NonZeroUsize {
     }
 }
 
-impl SerializeAs for NonZeroI8 {
+impl HasShape for NonZeroI8 {
     ghost tree = { λ left. nonzero_integer_tree 1 };
 
     ghost datum = { λ n. number (non_zero_i8_get n) };
 
     ghost sound = { λ left. width_1 };
+}
 
+impl SerializeAs for NonZeroI8 {
     #[inline(always)]
     fn write(&self, writer: &mut Writer, left: usize, place: usize) -> Result<(), Error> {
         self.get().write(writer, left, place)
@@ -262,13 +277,15 @@ impl<'a> DeserializeAs<'a> for NonZeroI8 {
     }
 }
 
-impl SerializeAs for NonZeroI16 {
+impl HasShape for NonZeroI16 {
     ghost tree = { λ left. nonzero_integer_tree 2 };
 
     ghost datum = { λ n. number (non_zero_i16_get n) };
 
     ghost sound = { λ left. width_2 };
+}
 
+impl SerializeAs for NonZeroI16 {
     #[inline(always)]
     fn write(&self, writer: &mut Writer, left: usize, place: usize) -> Result<(), Error> {
         self.get().write(writer, left, place)
@@ -296,13 +313,15 @@ impl<'a> DeserializeAs<'a> for NonZeroI16 {
     }
 }
 
-impl SerializeAs for NonZeroI32 {
+impl HasShape for NonZeroI32 {
     ghost tree = { λ left. nonzero_integer_tree 4 };
 
     ghost datum = { λ n. number (non_zero_i32_get n) };
 
     ghost sound = { λ left. width_4 };
+}
 
+impl SerializeAs for NonZeroI32 {
     #[inline(always)]
     fn write(&self, writer: &mut Writer, left: usize, place: usize) -> Result<(), Error> {
         self.get().write(writer, left, place)
@@ -330,13 +349,15 @@ impl<'a> DeserializeAs<'a> for NonZeroI32 {
     }
 }
 
-impl SerializeAs for NonZeroI64 {
+impl HasShape for NonZeroI64 {
     ghost tree = { λ left. nonzero_integer_tree 8 };
 
     ghost datum = { λ n. number (non_zero_i64_get n) };
 
     ghost sound = { λ left. width_8 };
+}
 
+impl SerializeAs for NonZeroI64 {
     #[inline(always)]
     fn write(&self, writer: &mut Writer, left: usize, place: usize) -> Result<(), Error> {
         self.get().write(writer, left, place)
@@ -364,13 +385,15 @@ impl<'a> DeserializeAs<'a> for NonZeroI64 {
     }
 }
 
-impl SerializeAs for NonZeroI128 {
+impl HasShape for NonZeroI128 {
     ghost tree = { λ left. nonzero_integer_tree 16 };
 
     ghost datum = { λ n. number (non_zero_i128_get n) };
 
     ghost sound = { λ left. width_16 };
+}
 
+impl SerializeAs for NonZeroI128 {
     #[inline(always)]
     fn write(&self, writer: &mut Writer, left: usize, place: usize) -> Result<(), Error> {
         self.get().write(writer, left, place)
@@ -398,13 +421,15 @@ impl<'a> DeserializeAs<'a> for NonZeroI128 {
     }
 }
 
-impl SerializeAs for NonZeroIsize {
+impl HasShape for NonZeroIsize {
     ghost tree = { λ left. nonzero_integer_tree 8 };
 
     ghost datum = { λ n. number (non_zero_isize_get n) };
 
     ghost sound = { λ left. width_8 };
+}
 
+impl SerializeAs for NonZeroIsize {
     #[inline(always)]
     fn write(&self, writer: &mut Writer, left: usize, place: usize) -> Result<(), Error> {
         self.get().write(writer, left, place)

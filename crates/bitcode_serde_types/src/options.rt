@@ -6,6 +6,7 @@ ghost use Rattle.bitcode_serde_types.specs.Options.{option_datum};
 
 use crate::deserialize_as::DeserializeAs;
 use crate::entering::enter_variant;
+use crate::has_shape::HasShape;
 use crate::serialize_as::SerializeAs;
 use crate::variants::write_variant;
 use bitcode_memory::error::{Error, Reason};
@@ -14,13 +15,15 @@ use bitcode_serde::reader::Reader;
 use bitcode_serde::writer::Writer;
 use std::alloc::Global;
 
-impl<T: SerializeAs> SerializeAs for Option<T> {
+impl<T: HasShape> HasShape for Option<T> {
     ghost tree = { λ left. option_tree (T.tree left) };
 
     ghost datum = { option_datum T.datum };
 
     ghost sound = { λ left. (tt, (T.sound left, tt)) };
+}
 
+impl<T: SerializeAs> SerializeAs for Option<T> {
     fn write(&self, writer: &mut Writer, left: usize, place: usize) -> Result<(), Error> {
         match self {
             None => write_variant(&(), 0, writer, left, place),

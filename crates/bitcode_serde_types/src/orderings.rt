@@ -5,6 +5,7 @@ ghost use Rattle.bitcode_serde_types.specs.Orderings.{ordering_datum, ordering_t
 
 use crate::deserialize_as::DeserializeAs;
 use crate::entering::enter_variant;
+use crate::has_shape::HasShape;
 use crate::serialize_as::SerializeAs;
 use crate::variants::write_variant;
 use bitcode_memory::error::{Error, Reason};
@@ -14,13 +15,15 @@ use bitcode_serde::writer::Writer;
 use std::alloc::Global;
 use std::cmp::Ordering;
 
-impl SerializeAs for Ordering {
+impl HasShape for Ordering {
     ghost tree = { λ left. ordering_tree };
 
     ghost datum = { ordering_datum };
 
     ghost sound = { λ left. (tt, (tt, (tt, tt))) };
+}
 
+impl SerializeAs for Ordering {
     fn write(&self, writer: &mut Writer, left: usize, place: usize) -> Result<(), Error> {
         match self {
             Ordering::Less => write_variant(&(), 0, writer, left, place),

@@ -5,6 +5,7 @@ ghost use Rattle.std.specs.Arc.{arc_value};
 ghost use Rattle.std.specs.Rc.{rc_value};
 
 use crate::deserialize_as::DeserializeAs;
+use crate::has_shape::HasShape;
 use crate::serialize_as::SerializeAs;
 use bitcode_memory::error::Error;
 use bitcode_serde::budget::Budget;
@@ -14,26 +15,30 @@ use std::alloc::Global;
 use std::rc::Rc;
 use std::sync::Arc;
 
-impl<T: SerializeAs> SerializeAs for &T {
+impl<T: HasShape> HasShape for &T {
     ghost tree = { T.tree };
 
     ghost datum = { λ r. T.datum r.now };
 
     ghost sound = { T.sound };
+}
 
+impl<T: SerializeAs> SerializeAs for &T {
     #[inline(always)]
     fn write(&self, writer: &mut Writer, left: usize, place: usize) -> Result<(), Error> {
         (**self).write(writer, left, place)
     }
 }
 
-impl<T: SerializeAs> SerializeAs for Box<T> {
+impl<T: HasShape> HasShape for Box<T> {
     ghost tree = { T.tree };
 
     ghost datum = { λ b. T.datum b.value };
 
     ghost sound = { T.sound };
+}
 
+impl<T: SerializeAs> SerializeAs for Box<T> {
     fn write(&self, writer: &mut Writer, left: usize, place: usize) -> Result<(), Error> {
         (**self).write(writer, left, place)
     }
@@ -56,13 +61,15 @@ impl<'a, T: DeserializeAs<'a>> DeserializeAs<'a> for Box<T> {
     }
 }
 
-impl<T: SerializeAs> SerializeAs for Rc<T> {
+impl<T: HasShape> HasShape for Rc<T> {
     ghost tree = { T.tree };
 
     ghost datum = { λ p. T.datum (rc_value p) };
 
     ghost sound = { T.sound };
+}
 
+impl<T: SerializeAs> SerializeAs for Rc<T> {
     fn write(&self, writer: &mut Writer, left: usize, place: usize) -> Result<(), Error> {
         self.as_ref().write(writer, left, place)
     }
@@ -85,13 +92,15 @@ impl<'a, T: DeserializeAs<'a>> DeserializeAs<'a> for Rc<T> {
     }
 }
 
-impl<T: SerializeAs> SerializeAs for Arc<T> {
+impl<T: HasShape> HasShape for Arc<T> {
     ghost tree = { T.tree };
 
     ghost datum = { λ p. T.datum (arc_value p) };
 
     ghost sound = { T.sound };
+}
 
+impl<T: SerializeAs> SerializeAs for Arc<T> {
     fn write(&self, writer: &mut Writer, left: usize, place: usize) -> Result<(), Error> {
         self.as_ref().write(writer, left, place)
     }

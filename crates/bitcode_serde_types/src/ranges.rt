@@ -6,6 +6,7 @@ ghost use Rattle.std.specs.Range.{range_inclusive_end, range_inclusive_start};
 use crate::deserialize_as::DeserializeAs;
 use crate::entering::read_at;
 use crate::fields::write_tuple;
+use crate::has_shape::HasShape;
 use crate::serialize_as::SerializeAs;
 use bitcode_memory::error::Error;
 use bitcode_serde::budget::Budget;
@@ -14,13 +15,15 @@ use bitcode_serde::writer::Writer;
 use std::alloc::Global;
 use std::ops::{Range, RangeInclusive};
 
+impl<T: HasShape> HasShape for Range<T> {
+    ghost tree = { ⟦<(T, T) as HasShape>⟧.tree };
+
+    ghost datum = { λ t. ⟦<(T, T) as HasShape>⟧.datum (t.start, t.end) };
+
+    ghost sound = { ⟦<(T, T) as HasShape>⟧.sound };
+}
+
 impl<T: SerializeAs> SerializeAs for Range<T> {
-    ghost tree = { ⟦<(T, T) as SerializeAs>⟧.tree };
-
-    ghost datum = { λ t. ⟦<(T, T) as SerializeAs>⟧.datum (t.start, t.end) };
-
-    ghost sound = { ⟦<(T, T) as SerializeAs>⟧.sound };
-
     fn write(&self, writer: &mut Writer, left: usize, place: usize) -> Result<(), Error> {
         write_tuple(&(&self.start, (&self.end, ())), 2, writer, left, place)
     }
@@ -44,14 +47,16 @@ impl<'a, T: DeserializeAs<'a>> DeserializeAs<'a> for Range<T> {
     }
 }
 
-impl<T: SerializeAs> SerializeAs for RangeInclusive<T> {
-    ghost tree = { ⟦<(T, T) as SerializeAs>⟧.tree };
+impl<T: HasShape> HasShape for RangeInclusive<T> {
+    ghost tree = { ⟦<(T, T) as HasShape>⟧.tree };
 
-    ghost datum = { λ t. ⟦<(T, T) as SerializeAs>⟧.datum
+    ghost datum = { λ t. ⟦<(T, T) as HasShape>⟧.datum
         (range_inclusive_start t, range_inclusive_end t) };
 
-    ghost sound = { ⟦<(T, T) as SerializeAs>⟧.sound };
+    ghost sound = { ⟦<(T, T) as HasShape>⟧.sound };
+}
 
+impl<T: SerializeAs> SerializeAs for RangeInclusive<T> {
     fn write(&self, writer: &mut Writer, left: usize, place: usize) -> Result<(), Error> {
         write_tuple(&(self.start(), (self.end(), ())), 2, writer, left, place)
     }

@@ -2,9 +2,9 @@
 #![tactic(auto)]
 
 ghost use Rattle.std.specs.Prelude.{◌≡◌, ℕ, ◌+◌, ◌≤◌, length, IfOk, IfErr, OnOk};
-ghost use Rattle.bitcode_shapes.specs.Datum.{Data, no_data, datum_and, tuple};
+ghost use Rattle.bitcode_shapes.specs.Datum.{tuple};
 ghost use Rattle.bitcode_untyped.specs.Bounds.{all_free};
-ghost use Rattle.bitcode_untyped.specs.ShapeTree.{ShapeTrees, no_trees, tree_and, tuple_tree};
+ghost use Rattle.bitcode_untyped.specs.ShapeTree.{tuple_tree};
 ghost use Rattle.bitcode_serde.specs.ReadingValues.{IsSteady, Continues};
 ghost use Rattle.bitcode_serde_types.specs.FieldsWritten.{tree_count};
 ghost use Rattle.bitcode_serde_types.specs.ReadingAs.{ReadsAs, ReadsFieldsAs};
@@ -12,22 +12,14 @@ ghost use Rattle.bitcode_serde_types.specs.Refusals.{IsRefusalAt, IsFieldsRefusa
 
 use crate::deserialize_as::DeserializeAs;
 use crate::entering::read_field;
+use crate::has_shape::HasShapes;
 use bitcode_memory::error::Error;
 use bitcode_serde::budget::Budget;
 use bitcode_serde::reader::Reader;
 use std::alloc::Global;
 
 /// The fields of a struct or a tuple, from one of them on, that are read from the places of their shapes.
-///
-/// It says again what [`SerializeFields`](crate::fields::SerializeFields) says of the shape and the content: with that
-/// trait as a bound, a call for a nest of pairs would pass its impls once more for each level.
-pub trait DeserializeFields<'a> {
-    // the shape of each field, by how many references may be followed
-    ghost trees: { ℕ → ShapeTrees };
-
-    // the content of each field
-    ghost content: { Self → Data };
-
+pub trait DeserializeFields<'a>: HasShapes {
     /// Whether none of the fields has an entry in any column.
     fn are_free() -> bool
         ensures { (left : ℕ) → result ≡ all_free (Self.trees left) };
@@ -56,10 +48,6 @@ pub trait DeserializeFields<'a> {
 }
 
 impl<'a> DeserializeFields<'a> for () {
-    ghost trees = { λ left. no_trees };
-
-    ghost content = { λ u. no_data };
-
     fn are_free() -> bool {
         true
     }
@@ -79,10 +67,6 @@ impl<'a> DeserializeFields<'a> for () {
 }
 
 impl<'a, A: DeserializeAs<'a>, R: DeserializeFields<'a>> DeserializeFields<'a> for (A, R) {
-    ghost trees = { λ left. tree_and (A.tree left) (R.trees left) };
-
-    ghost content = { λ t. datum_and (A.datum t.0) (R.content t.1) };
-
     fn are_free() -> bool {
         A::is_free() && R::are_free()
     }

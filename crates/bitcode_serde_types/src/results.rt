@@ -5,6 +5,7 @@ ghost use Rattle.bitcode_serde_types.specs.Results.{result_tree, result_datum};
 
 use crate::deserialize_as::DeserializeAs;
 use crate::entering::enter_variant;
+use crate::has_shape::HasShape;
 use crate::serialize_as::SerializeAs;
 use crate::variants::write_variant;
 use bitcode_memory::error::{Error, Reason};
@@ -13,13 +14,15 @@ use bitcode_serde::reader::Reader;
 use bitcode_serde::writer::Writer;
 use std::alloc::Global;
 
-impl<T: SerializeAs, E: SerializeAs> SerializeAs for Result<T, E> {
+impl<T: HasShape, E: HasShape> HasShape for Result<T, E> {
     ghost tree = { λ left. result_tree (T.tree left) (E.tree left) };
 
     ghost datum = { result_datum T.datum E.datum };
 
     ghost sound = { λ left. (T.sound left, (E.sound left, tt)) };
+}
 
+impl<T: SerializeAs, E: SerializeAs> SerializeAs for Result<T, E> {
     fn write(&self, writer: &mut Writer, left: usize, place: usize) -> Result<(), Error> {
         match self {
             Ok(value) => write_variant(value, 0, writer, left, place),

@@ -13,6 +13,7 @@ ghost use Rattle.bitcode_serde_types.specs.Refusals.{IsListRefusalAt, IsReasonOf
 
 use crate::deserialize_as::DeserializeAs;
 use crate::entering::{Elements, enter_list};
+use crate::has_shape::HasShape;
 use crate::serialize_as::SerializeAs;
 use bitcode_memory::error::{Error, Reason};
 use bitcode_memory::refuse::err;
@@ -23,13 +24,15 @@ use bitcode_serde::write_column::Entry;
 use bitcode_serde::writer::Writer;
 use std::alloc::Global;
 
-impl<T: SerializeAs> SerializeAs for Vec<T> {
+impl<T: HasShape> HasShape for Vec<T> {
     ghost tree = { λ left. seq_tree (T.tree left) };
 
     ghost datum = { λ v. list (data_of (map T.datum v.items)) };
 
     ghost sound = { T.sound };
+}
 
+impl<T: SerializeAs> SerializeAs for Vec<T> {
     fn write(&self, writer: &mut Writer, left: usize, place: usize) -> Result<(), Error> {
         let values = self.as_slice();
         writer.put(place, Entry::Length(values.len()))?;

@@ -1,39 +1,27 @@
 //! Encoding values of Rust types.
-ghost use Rattle.std.specs.Prelude.{◌≡◌, ℕ, ◌≤◌, [], length, IfOk, IfErr, OnOk};
-ghost use Rattle.bitcode_shapes.specs.Datum.{Datum};
+ghost use Rattle.std.specs.Prelude.{◌≡◌, ◌≤◌, [], length, IfOk, IfErr, OnOk};
 ghost use Rattle.bitcode_untyped.specs.Bounds.{IsLimited};
 ghost use Rattle.bitcode_untyped.specs.Laws.{LengthsBelowLimit};
-ghost use Rattle.bitcode_untyped.specs.ShapeTree.{ShapeTree, IsOf, IsSound};
+ghost use Rattle.bitcode_untyped.specs.ShapeTree.{IsOf};
 ghost use Rattle.bitcode_untyped.specs.Spelling.{SpellsDatum, datum_text};
 ghost use Rattle.bitcode_serde.specs.Serializing.{Outcome};
 ghost use Rattle.bitcode_serde.specs.Writing.{IsWriterReason};
 ghost use Rattle.bitcode_serde_types.specs.DeepFaults.{deep_faults};
 
+use crate::has_shape::HasShape;
 use bitcode_memory::error::Error;
 use bitcode_serde::writer::Writer;
 use std::alloc::Global;
 
 /// A type whose values are written at the places of its shape.
-///
-/// `tree left` is the type's shape, in which so many references may be followed on one path. A recursive type follows
-/// one to itself: `tree 0` is the shape of no value, and `tree (left + 1)` has `tree left` in the place of the type.
-pub trait SerializeAs {
-    // the shape, by how many references may be followed
-    ghost tree: { ℕ → ShapeTree };
-
-    // the content of a value
-    ghost datum: { Self → Datum };
-
-    // Its columns are such as there are.
-    ghost sound: { (left : ℕ) → IsSound (tree left) };
-
+pub trait SerializeAs: HasShape {
     /// Writes the value at a place, below which so many references may be followed.
     ///
     /// Errors: `nested too deep` only for one reference too many, and `out of memory`.
     fn write(&self, writer: &mut Writer, left: usize, place: usize) -> Result<(), Error>
         requires { place ≤ length writer.old.places.below.items }
-        ensures { Outcome writer.old (tree left) place (datum self.now)
-            (deep_faults (tree left) (datum self.now)) result writer.new };
+        ensures { Outcome writer.old (Self.tree left) place (Self.datum self.now)
+            (deep_faults (Self.tree left) (Self.datum self.now)) result writer.new };
 }
 
 /// How many references a path may have, with the one to the type itself: the 512 of `serialize`, and that to its root.

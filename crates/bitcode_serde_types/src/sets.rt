@@ -11,6 +11,7 @@ ghost use Rattle.bitcode_serde_types.specs.Restates.{AreEntriesOf};
 
 use crate::deserialize_as::DeserializeAs;
 use crate::entering::enter_map;
+use crate::has_shape::HasShape;
 use crate::keys::KeyAs;
 use crate::maps::begin_map;
 use crate::serialize_as::SerializeAs;
@@ -22,13 +23,15 @@ use std::alloc::Global;
 use std::collections::{BTreeSet, HashSet};
 use std::hash::Hash;
 
-impl<K: KeyAs> SerializeAs for BTreeSet<K> {
+impl<K: KeyAs> HasShape for BTreeSet<K> {
     ghost tree = { λ left. map_tree (K.tree left) unit_tree };
 
     ghost datum = { λ s. set_datum K.datum s.keys };
 
     ghost sound = { λ left. (K.sound left, tt) };
+}
 
+impl<K: KeyAs> SerializeAs for BTreeSet<K> {
     fn write(&self, writer: &mut Writer, left: usize, place: usize) -> Result<(), Error> {
         let places = begin_map(writer, self.len(), place)?;
         for key in self {
@@ -38,13 +41,15 @@ impl<K: KeyAs> SerializeAs for BTreeSet<K> {
     }
 }
 
-impl<K: KeyAs + Hash> SerializeAs for HashSet<K> {
+impl<K: KeyAs + Hash> HasShape for HashSet<K> {
     ghost tree = { λ left. map_tree (K.tree left) unit_tree };
 
     ghost datum = { λ s. set_datum K.datum s.keys };
 
     ghost sound = { λ left. (K.sound left, tt) };
+}
 
+impl<K: KeyAs + Hash> SerializeAs for HashSet<K> {
     fn write(&self, writer: &mut Writer, left: usize, place: usize) -> Result<(), Error> {
         let places = begin_map(writer, self.len(), place)?;
         for key in self {

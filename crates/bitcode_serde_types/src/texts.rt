@@ -14,6 +14,7 @@ ghost use Rattle.bitcode_serde_types.specs.ReadingAs.{ReadsAs};
 ghost use Rattle.bitcode_serde_types.specs.Refusals.{IsRefusalAt};
 
 use crate::deserialize_as::DeserializeAs;
+use crate::has_shape::HasShape;
 use crate::leaves::write_text;
 use crate::read_leaves::read_text;
 use crate::serialize_as::SerializeAs;
@@ -27,13 +28,15 @@ use std::boxed::BoxedStr;
 use std::rc::RcStr;
 use std::sync::ArcStr;
 
-impl SerializeAs for BoxedStr {
+impl HasShape for BoxedStr {
     ghost tree = { λ left. text_tree };
 
     ghost datum = { λ s. text (boxed_str_bytes s) };
 
     ghost sound = { λ left. tt };
+}
 
+impl SerializeAs for BoxedStr {
     fn write(&self, writer: &mut Writer, _left: usize, place: usize) -> Result<(), Error> {
         write_text(self.as_str(), writer, place)
     }
@@ -56,13 +59,15 @@ impl<'a> DeserializeAs<'a> for BoxedStr {
     }
 }
 
-impl SerializeAs for RcStr {
+impl HasShape for RcStr {
     ghost tree = { λ left. text_tree };
 
     ghost datum = { λ s. text (rc_str_bytes s) };
 
     ghost sound = { λ left. tt };
+}
 
+impl SerializeAs for RcStr {
     fn write(&self, writer: &mut Writer, _left: usize, place: usize) -> Result<(), Error> {
         write_text(self.as_str(), writer, place)
     }
@@ -85,13 +90,15 @@ impl<'a> DeserializeAs<'a> for RcStr {
     }
 }
 
-impl SerializeAs for ArcStr {
+impl HasShape for ArcStr {
     ghost tree = { λ left. text_tree };
 
     ghost datum = { λ s. text (arc_str_bytes s) };
 
     ghost sound = { λ left. tt };
+}
 
+impl SerializeAs for ArcStr {
     fn write(&self, writer: &mut Writer, _left: usize, place: usize) -> Result<(), Error> {
         write_text(self.as_str(), writer, place)
     }
@@ -114,13 +121,15 @@ impl<'a> DeserializeAs<'a> for ArcStr {
     }
 }
 
-impl<'a> SerializeAs for CowStr<'a> {
+impl<'a> HasShape for CowStr<'a> {
     ghost tree = { λ left. text_tree };
 
     ghost datum = { λ s. text (cow_str_bytes s) };
 
     ghost sound = { λ left. tt };
+}
 
+impl<'a> SerializeAs for CowStr<'a> {
     fn write(&self, writer: &mut Writer, _left: usize, place: usize) -> Result<(), Error> {
         write_text(self.as_str(), writer, place)
     }

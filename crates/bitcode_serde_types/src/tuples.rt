@@ -8,7 +8,8 @@ ghost use Rattle.bitcode_serde_types.specs.Joined.{joined, joined_data};
 ghost use Rattle.bitcode_serde_types.specs.LawfulJoined.{joined_sound};
 
 use crate::deserialize_as::DeserializeAs;
-use crate::fields::{SerializeFields, write_tuple};
+use crate::fields::write_tuple;
+use crate::has_shape::{HasShape, HasShapes};
 use crate::parts::{are_free_in_parts, read_in_parts, write_in_parts};
 use crate::read_fields::{DeserializeFields, read_tuple};
 use crate::serialize_as::SerializeAs;
@@ -18,13 +19,15 @@ use bitcode_serde::reader::Reader;
 use bitcode_serde::writer::Writer;
 use std::alloc::Global;
 
-impl SerializeAs for () {
+impl HasShape for () {
     ghost tree = { λ left. unit_tree };
 
     ghost datum = { λ u. unit };
 
     ghost sound = { λ left. tt };
+}
 
+impl SerializeAs for () {
     fn write(&self, _writer: &mut Writer, _left: usize, _place: usize) -> Result<(), Error> {
         Ok(())
     }
@@ -47,13 +50,15 @@ impl<'a> DeserializeAs<'a> for () {
     }
 }
 
+impl<A: HasShape> HasShape for (A,) {
+    ghost tree = { λ left. tuple_tree (⟦<(A, ()) as HasShapes>⟧.trees left) };
+
+    ghost datum = { λ t. tuple (⟦<(A, ()) as HasShapes>⟧.content (t.0, tt)) };
+
+    ghost sound = { ⟦<(A, ()) as HasShapes>⟧.sound };
+}
+
 impl<A: SerializeAs> SerializeAs for (A,) {
-    ghost tree = { λ left. tuple_tree (⟦<(A, ()) as SerializeFields>⟧.trees left) };
-
-    ghost datum = { λ t. tuple (⟦<(A, ()) as SerializeFields>⟧.content (t.0, tt)) };
-
-    ghost sound = { ⟦<(A, ()) as SerializeFields>⟧.sound };
-
     fn write(&self, writer: &mut Writer, left: usize, place: usize) -> Result<(), Error> {
         write_tuple(&(&self.0, ()), 1, writer, left, place)
     }
@@ -77,13 +82,15 @@ impl<'a, A: DeserializeAs<'a>> DeserializeAs<'a> for (A,) {
     }
 }
 
+impl<A: HasShape, B: HasShape> HasShape for (A, B) {
+    ghost tree = { λ left. tuple_tree (⟦<(A, (B, ())) as HasShapes>⟧.trees left) };
+
+    ghost datum = { λ t. tuple (⟦<(A, (B, ())) as HasShapes>⟧.content (t.0, (t.1, tt))) };
+
+    ghost sound = { ⟦<(A, (B, ())) as HasShapes>⟧.sound };
+}
+
 impl<A: SerializeAs, B: SerializeAs> SerializeAs for (A, B) {
-    ghost tree = { λ left. tuple_tree (⟦<(A, (B, ())) as SerializeFields>⟧.trees left) };
-
-    ghost datum = { λ t. tuple (⟦<(A, (B, ())) as SerializeFields>⟧.content (t.0, (t.1, tt))) };
-
-    ghost sound = { ⟦<(A, (B, ())) as SerializeFields>⟧.sound };
-
     fn write(&self, writer: &mut Writer, left: usize, place: usize) -> Result<(), Error> {
         write_tuple(&(&self.0, (&self.1, ())), 2, writer, left, place)
     }
@@ -107,14 +114,16 @@ impl<'a, A: DeserializeAs<'a>, B: DeserializeAs<'a>> DeserializeAs<'a> for (A, B
     }
 }
 
-impl<A: SerializeAs, B: SerializeAs, C: SerializeAs> SerializeAs for (A, B, C) {
-    ghost tree = { λ left. tuple_tree (⟦<(A, (B, (C, ()))) as SerializeFields>⟧.trees left) };
+impl<A: HasShape, B: HasShape, C: HasShape> HasShape for (A, B, C) {
+    ghost tree = { λ left. tuple_tree (⟦<(A, (B, (C, ()))) as HasShapes>⟧.trees left) };
 
     ghost datum = { λ t. tuple
-        (⟦<(A, (B, (C, ()))) as SerializeFields>⟧.content (t.0, (t.1, (t.2, tt)))) };
+        (⟦<(A, (B, (C, ()))) as HasShapes>⟧.content (t.0, (t.1, (t.2, tt)))) };
 
-    ghost sound = { ⟦<(A, (B, (C, ()))) as SerializeFields>⟧.sound };
+    ghost sound = { ⟦<(A, (B, (C, ()))) as HasShapes>⟧.sound };
+}
 
+impl<A: SerializeAs, B: SerializeAs, C: SerializeAs> SerializeAs for (A, B, C) {
     fn write(&self, writer: &mut Writer, left: usize, place: usize) -> Result<(), Error> {
         write_tuple(&(&self.0, (&self.1, (&self.2, ()))), 3, writer, left, place)
     }
@@ -139,14 +148,16 @@ impl<'a, A: DeserializeAs<'a>, B: DeserializeAs<'a>, C: DeserializeAs<'a>> Deser
     }
 }
 
-impl<A: SerializeAs, B: SerializeAs, C: SerializeAs, D: SerializeAs> SerializeAs for (A, B, C, D) {
-    ghost tree = { λ left. tuple_tree (⟦<(A, (B, (C, (D, ())))) as SerializeFields>⟧.trees left) };
+impl<A: HasShape, B: HasShape, C: HasShape, D: HasShape> HasShape for (A, B, C, D) {
+    ghost tree = { λ left. tuple_tree (⟦<(A, (B, (C, (D, ())))) as HasShapes>⟧.trees left) };
 
     ghost datum = { λ t. tuple
-        (⟦<(A, (B, (C, (D, ())))) as SerializeFields>⟧.content (t.0, (t.1, (t.2, (t.3, tt))))) };
+        (⟦<(A, (B, (C, (D, ())))) as HasShapes>⟧.content (t.0, (t.1, (t.2, (t.3, tt))))) };
 
-    ghost sound = { ⟦<(A, (B, (C, (D, ())))) as SerializeFields>⟧.sound };
+    ghost sound = { ⟦<(A, (B, (C, (D, ())))) as HasShapes>⟧.sound };
+}
 
+impl<A: SerializeAs, B: SerializeAs, C: SerializeAs, D: SerializeAs> SerializeAs for (A, B, C, D) {
     fn write(&self, writer: &mut Writer, left: usize, place: usize) -> Result<(), Error> {
         write_tuple(
             &(&self.0, (&self.1, (&self.2, (&self.3, ())))),
@@ -182,17 +193,18 @@ impl<
     }
 }
 
-impl<A: SerializeAs, B: SerializeAs, C: SerializeAs, D: SerializeAs, E: SerializeAs> SerializeAs
-    for (A, B, C, D, E) {
-    ghost tree = { λ left. tuple_tree
-        (⟦<(A, (B, (C, (D, (E, ()))))) as SerializeFields>⟧.trees left) };
+impl<A: HasShape, B: HasShape, C: HasShape, D: HasShape, E: HasShape> HasShape for (A, B, C, D, E) {
+    ghost tree = { λ left. tuple_tree (⟦<(A, (B, (C, (D, (E, ()))))) as HasShapes>⟧.trees left) };
 
     ghost datum = { λ t. tuple
-        (⟦<(A, (B, (C, (D, (E, ()))))) as SerializeFields>⟧.content
+        (⟦<(A, (B, (C, (D, (E, ()))))) as HasShapes>⟧.content
         (t.0, (t.1, (t.2, (t.3, (t.4, tt)))))) };
 
-    ghost sound = { ⟦<(A, (B, (C, (D, (E, ()))))) as SerializeFields>⟧.sound };
+    ghost sound = { ⟦<(A, (B, (C, (D, (E, ()))))) as HasShapes>⟧.sound };
+}
 
+impl<A: SerializeAs, B: SerializeAs, C: SerializeAs, D: SerializeAs, E: SerializeAs> SerializeAs
+    for (A, B, C, D, E) {
     fn write(&self, writer: &mut Writer, left: usize, place: usize) -> Result<(), Error> {
         write_tuple(
             &(&self.0, (&self.1, (&self.2, (&self.3, (&self.4, ()))))),
@@ -231,6 +243,18 @@ impl<
     }
 }
 
+impl<A: HasShape, B: HasShape, C: HasShape, D: HasShape, E: HasShape, F: HasShape> HasShape
+    for (A, B, C, D, E, F) {
+    ghost tree = { λ left. tuple_tree
+        (⟦<(A, (B, (C, (D, (E, (F, ())))))) as HasShapes>⟧.trees left) };
+
+    ghost datum = { λ t. tuple
+        (⟦<(A, (B, (C, (D, (E, (F, ())))))) as HasShapes>⟧.content
+        (t.0, (t.1, (t.2, (t.3, (t.4, (t.5, tt))))))) };
+
+    ghost sound = { ⟦<(A, (B, (C, (D, (E, (F, ())))))) as HasShapes>⟧.sound };
+}
+
 impl<
     A: SerializeAs,
     B: SerializeAs,
@@ -239,15 +263,6 @@ impl<
     E: SerializeAs,
     F: SerializeAs,
 > SerializeAs for (A, B, C, D, E, F) {
-    ghost tree = { λ left. tuple_tree
-        (⟦<(A, (B, (C, (D, (E, (F, ())))))) as SerializeFields>⟧.trees left) };
-
-    ghost datum = { λ t. tuple
-        (⟦<(A, (B, (C, (D, (E, (F, ())))))) as SerializeFields>⟧.content
-        (t.0, (t.1, (t.2, (t.3, (t.4, (t.5, tt))))))) };
-
-    ghost sound = { ⟦<(A, (B, (C, (D, (E, (F, ())))))) as SerializeFields>⟧.sound };
-
     fn write(&self, writer: &mut Writer, left: usize, place: usize) -> Result<(), Error> {
         write_tuple(
             &(
@@ -291,6 +306,25 @@ impl<
 }
 
 impl<
+    A: HasShape,
+    B: HasShape,
+    C: HasShape,
+    D: HasShape,
+    E: HasShape,
+    F: HasShape,
+    G: HasShape,
+> HasShape for (A, B, C, D, E, F, G) {
+    ghost tree = { λ left. tuple_tree
+        (⟦<(A, (B, (C, (D, (E, (F, (G, ()))))))) as HasShapes>⟧.trees left) };
+
+    ghost datum = { λ t. tuple
+        (⟦<(A, (B, (C, (D, (E, (F, (G, ()))))))) as HasShapes>⟧.content
+        (t.0, (t.1, (t.2, (t.3, (t.4, (t.5, (t.6, tt)))))))) };
+
+    ghost sound = { ⟦<(A, (B, (C, (D, (E, (F, (G, ()))))))) as HasShapes>⟧.sound };
+}
+
+impl<
     A: SerializeAs,
     B: SerializeAs,
     C: SerializeAs,
@@ -299,15 +333,6 @@ impl<
     F: SerializeAs,
     G: SerializeAs,
 > SerializeAs for (A, B, C, D, E, F, G) {
-    ghost tree = { λ left. tuple_tree
-        (⟦<(A, (B, (C, (D, (E, (F, (G, ()))))))) as SerializeFields>⟧.trees left) };
-
-    ghost datum = { λ t. tuple
-        (⟦<(A, (B, (C, (D, (E, (F, (G, ()))))))) as SerializeFields>⟧.content
-        (t.0, (t.1, (t.2, (t.3, (t.4, (t.5, (t.6, tt)))))))) };
-
-    ghost sound = { ⟦<(A, (B, (C, (D, (E, (F, (G, ()))))))) as SerializeFields>⟧.sound };
-
     fn write(&self, writer: &mut Writer, left: usize, place: usize) -> Result<(), Error> {
         write_tuple(
             &(
@@ -355,6 +380,26 @@ impl<
 }
 
 impl<
+    A: HasShape,
+    B: HasShape,
+    C: HasShape,
+    D: HasShape,
+    E: HasShape,
+    F: HasShape,
+    G: HasShape,
+    H: HasShape,
+> HasShape for (A, B, C, D, E, F, G, H) {
+    ghost tree = { λ left. tuple_tree
+        (⟦<(A, (B, (C, (D, (E, (F, (G, (H, ())))))))) as HasShapes>⟧.trees left) };
+
+    ghost datum = { λ t. tuple
+        (⟦<(A, (B, (C, (D, (E, (F, (G, (H, ())))))))) as HasShapes>⟧.content
+        (t.0, (t.1, (t.2, (t.3, (t.4, (t.5, (t.6, (t.7, tt))))))))) };
+
+    ghost sound = { ⟦<(A, (B, (C, (D, (E, (F, (G, (H, ())))))))) as HasShapes>⟧.sound };
+}
+
+impl<
     A: SerializeAs,
     B: SerializeAs,
     C: SerializeAs,
@@ -364,15 +409,6 @@ impl<
     G: SerializeAs,
     H: SerializeAs,
 > SerializeAs for (A, B, C, D, E, F, G, H) {
-    ghost tree = { λ left. tuple_tree
-        (⟦<(A, (B, (C, (D, (E, (F, (G, (H, ())))))))) as SerializeFields>⟧.trees left) };
-
-    ghost datum = { λ t. tuple
-        (⟦<(A, (B, (C, (D, (E, (F, (G, (H, ())))))))) as SerializeFields>⟧.content
-        (t.0, (t.1, (t.2, (t.3, (t.4, (t.5, (t.6, (t.7, tt))))))))) };
-
-    ghost sound = { ⟦<(A, (B, (C, (D, (E, (F, (G, (H, ())))))))) as SerializeFields>⟧.sound };
-
     fn write(&self, writer: &mut Writer, left: usize, place: usize) -> Result<(), Error> {
         write_tuple(
             &(
@@ -424,6 +460,34 @@ impl<
 }
 
 impl<
+    A: HasShape,
+    B: HasShape,
+    C: HasShape,
+    D: HasShape,
+    E: HasShape,
+    F: HasShape,
+    G: HasShape,
+    H: HasShape,
+    I: HasShape,
+> HasShape for (A, B, C, D, E, F, G, H, I) {
+    ghost tree = { λ left. tuple_tree
+        (joined (⟦<(A, (B, (C, (D, (E, (F, (G, (H, ())))))))) as HasShapes>⟧.trees left)
+        (⟦<(I, ()) as HasShapes>⟧.trees left)) };
+
+    ghost datum = { λ t. tuple
+        (joined_data
+        (⟦<(A, (B, (C, (D, (E, (F, (G, (H, ())))))))) as HasShapes>⟧.content
+        (t.0, (t.1, (t.2, (t.3, (t.4, (t.5, (t.6, (t.7, tt)))))))))
+        (⟦<(I, ()) as HasShapes>⟧.content (t.8, tt))) };
+
+    ghost sound = { λ left. joined_sound
+        (⟦<(A, (B, (C, (D, (E, (F, (G, (H, ())))))))) as HasShapes>⟧.trees left)
+        (⟦<(I, ()) as HasShapes>⟧.trees left)
+        (⟦<(A, (B, (C, (D, (E, (F, (G, (H, ())))))))) as HasShapes>⟧.sound left)
+        (⟦<(I, ()) as HasShapes>⟧.sound left) };
+}
+
+impl<
     A: SerializeAs,
     B: SerializeAs,
     C: SerializeAs,
@@ -434,22 +498,6 @@ impl<
     H: SerializeAs,
     I: SerializeAs,
 > SerializeAs for (A, B, C, D, E, F, G, H, I) {
-    ghost tree = { λ left. tuple_tree
-        (joined (⟦<(A, (B, (C, (D, (E, (F, (G, (H, ())))))))) as SerializeFields>⟧.trees left)
-        (⟦<(I, ()) as SerializeFields>⟧.trees left)) };
-
-    ghost datum = { λ t. tuple
-        (joined_data
-        (⟦<(A, (B, (C, (D, (E, (F, (G, (H, ())))))))) as SerializeFields>⟧.content
-        (t.0, (t.1, (t.2, (t.3, (t.4, (t.5, (t.6, (t.7, tt)))))))))
-        (⟦<(I, ()) as SerializeFields>⟧.content (t.8, tt))) };
-
-    ghost sound = { λ left. joined_sound
-        (⟦<(A, (B, (C, (D, (E, (F, (G, (H, ())))))))) as SerializeFields>⟧.trees left)
-        (⟦<(I, ()) as SerializeFields>⟧.trees left)
-        (⟦<(A, (B, (C, (D, (E, (F, (G, (H, ())))))))) as SerializeFields>⟧.sound left)
-        (⟦<(I, ()) as SerializeFields>⟧.sound left) };
-
     fn write(&self, writer: &mut Writer, left: usize, place: usize) -> Result<(), Error> {
         write_in_parts(
             &(
@@ -504,6 +552,35 @@ impl<
 }
 
 impl<
+    A: HasShape,
+    B: HasShape,
+    C: HasShape,
+    D: HasShape,
+    E: HasShape,
+    F: HasShape,
+    G: HasShape,
+    H: HasShape,
+    I: HasShape,
+    J: HasShape,
+> HasShape for (A, B, C, D, E, F, G, H, I, J) {
+    ghost tree = { λ left. tuple_tree
+        (joined (⟦<(A, (B, (C, (D, (E, (F, (G, (H, ())))))))) as HasShapes>⟧.trees left)
+        (⟦<(I, (J, ())) as HasShapes>⟧.trees left)) };
+
+    ghost datum = { λ t. tuple
+        (joined_data
+        (⟦<(A, (B, (C, (D, (E, (F, (G, (H, ())))))))) as HasShapes>⟧.content
+        (t.0, (t.1, (t.2, (t.3, (t.4, (t.5, (t.6, (t.7, tt)))))))))
+        (⟦<(I, (J, ())) as HasShapes>⟧.content (t.8, (t.9, tt)))) };
+
+    ghost sound = { λ left. joined_sound
+        (⟦<(A, (B, (C, (D, (E, (F, (G, (H, ())))))))) as HasShapes>⟧.trees left)
+        (⟦<(I, (J, ())) as HasShapes>⟧.trees left)
+        (⟦<(A, (B, (C, (D, (E, (F, (G, (H, ())))))))) as HasShapes>⟧.sound left)
+        (⟦<(I, (J, ())) as HasShapes>⟧.sound left) };
+}
+
+impl<
     A: SerializeAs,
     B: SerializeAs,
     C: SerializeAs,
@@ -515,22 +592,6 @@ impl<
     I: SerializeAs,
     J: SerializeAs,
 > SerializeAs for (A, B, C, D, E, F, G, H, I, J) {
-    ghost tree = { λ left. tuple_tree
-        (joined (⟦<(A, (B, (C, (D, (E, (F, (G, (H, ())))))))) as SerializeFields>⟧.trees left)
-        (⟦<(I, (J, ())) as SerializeFields>⟧.trees left)) };
-
-    ghost datum = { λ t. tuple
-        (joined_data
-        (⟦<(A, (B, (C, (D, (E, (F, (G, (H, ())))))))) as SerializeFields>⟧.content
-        (t.0, (t.1, (t.2, (t.3, (t.4, (t.5, (t.6, (t.7, tt)))))))))
-        (⟦<(I, (J, ())) as SerializeFields>⟧.content (t.8, (t.9, tt)))) };
-
-    ghost sound = { λ left. joined_sound
-        (⟦<(A, (B, (C, (D, (E, (F, (G, (H, ())))))))) as SerializeFields>⟧.trees left)
-        (⟦<(I, (J, ())) as SerializeFields>⟧.trees left)
-        (⟦<(A, (B, (C, (D, (E, (F, (G, (H, ())))))))) as SerializeFields>⟧.sound left)
-        (⟦<(I, (J, ())) as SerializeFields>⟧.sound left) };
-
     fn write(&self, writer: &mut Writer, left: usize, place: usize) -> Result<(), Error> {
         write_in_parts(
             &(
@@ -586,6 +647,36 @@ impl<
 }
 
 impl<
+    A: HasShape,
+    B: HasShape,
+    C: HasShape,
+    D: HasShape,
+    E: HasShape,
+    F: HasShape,
+    G: HasShape,
+    H: HasShape,
+    I: HasShape,
+    J: HasShape,
+    K: HasShape,
+> HasShape for (A, B, C, D, E, F, G, H, I, J, K) {
+    ghost tree = { λ left. tuple_tree
+        (joined (⟦<(A, (B, (C, (D, (E, (F, (G, (H, ())))))))) as HasShapes>⟧.trees left)
+        (⟦<(I, (J, (K, ()))) as HasShapes>⟧.trees left)) };
+
+    ghost datum = { λ t. tuple
+        (joined_data
+        (⟦<(A, (B, (C, (D, (E, (F, (G, (H, ())))))))) as HasShapes>⟧.content
+        (t.0, (t.1, (t.2, (t.3, (t.4, (t.5, (t.6, (t.7, tt)))))))))
+        (⟦<(I, (J, (K, ()))) as HasShapes>⟧.content (t.8, (t.9, (t.10, tt))))) };
+
+    ghost sound = { λ left. joined_sound
+        (⟦<(A, (B, (C, (D, (E, (F, (G, (H, ())))))))) as HasShapes>⟧.trees left)
+        (⟦<(I, (J, (K, ()))) as HasShapes>⟧.trees left)
+        (⟦<(A, (B, (C, (D, (E, (F, (G, (H, ())))))))) as HasShapes>⟧.sound left)
+        (⟦<(I, (J, (K, ()))) as HasShapes>⟧.sound left) };
+}
+
+impl<
     A: SerializeAs,
     B: SerializeAs,
     C: SerializeAs,
@@ -598,22 +689,6 @@ impl<
     J: SerializeAs,
     K: SerializeAs,
 > SerializeAs for (A, B, C, D, E, F, G, H, I, J, K) {
-    ghost tree = { λ left. tuple_tree
-        (joined (⟦<(A, (B, (C, (D, (E, (F, (G, (H, ())))))))) as SerializeFields>⟧.trees left)
-        (⟦<(I, (J, (K, ()))) as SerializeFields>⟧.trees left)) };
-
-    ghost datum = { λ t. tuple
-        (joined_data
-        (⟦<(A, (B, (C, (D, (E, (F, (G, (H, ())))))))) as SerializeFields>⟧.content
-        (t.0, (t.1, (t.2, (t.3, (t.4, (t.5, (t.6, (t.7, tt)))))))))
-        (⟦<(I, (J, (K, ()))) as SerializeFields>⟧.content (t.8, (t.9, (t.10, tt))))) };
-
-    ghost sound = { λ left. joined_sound
-        (⟦<(A, (B, (C, (D, (E, (F, (G, (H, ())))))))) as SerializeFields>⟧.trees left)
-        (⟦<(I, (J, (K, ()))) as SerializeFields>⟧.trees left)
-        (⟦<(A, (B, (C, (D, (E, (F, (G, (H, ())))))))) as SerializeFields>⟧.sound left)
-        (⟦<(I, (J, (K, ()))) as SerializeFields>⟧.sound left) };
-
     fn write(&self, writer: &mut Writer, left: usize, place: usize) -> Result<(), Error> {
         write_in_parts(
             &(
@@ -671,6 +746,37 @@ impl<
 }
 
 impl<
+    A: HasShape,
+    B: HasShape,
+    C: HasShape,
+    D: HasShape,
+    E: HasShape,
+    F: HasShape,
+    G: HasShape,
+    H: HasShape,
+    I: HasShape,
+    J: HasShape,
+    K: HasShape,
+    L: HasShape,
+> HasShape for (A, B, C, D, E, F, G, H, I, J, K, L) {
+    ghost tree = { λ left. tuple_tree
+        (joined (⟦<(A, (B, (C, (D, (E, (F, (G, (H, ())))))))) as HasShapes>⟧.trees left)
+        (⟦<(I, (J, (K, (L, ())))) as HasShapes>⟧.trees left)) };
+
+    ghost datum = { λ t. tuple
+        (joined_data
+        (⟦<(A, (B, (C, (D, (E, (F, (G, (H, ())))))))) as HasShapes>⟧.content
+        (t.0, (t.1, (t.2, (t.3, (t.4, (t.5, (t.6, (t.7, tt)))))))))
+        (⟦<(I, (J, (K, (L, ())))) as HasShapes>⟧.content (t.8, (t.9, (t.10, (t.11, tt)))))) };
+
+    ghost sound = { λ left. joined_sound
+        (⟦<(A, (B, (C, (D, (E, (F, (G, (H, ())))))))) as HasShapes>⟧.trees left)
+        (⟦<(I, (J, (K, (L, ())))) as HasShapes>⟧.trees left)
+        (⟦<(A, (B, (C, (D, (E, (F, (G, (H, ())))))))) as HasShapes>⟧.sound left)
+        (⟦<(I, (J, (K, (L, ())))) as HasShapes>⟧.sound left) };
+}
+
+impl<
     A: SerializeAs,
     B: SerializeAs,
     C: SerializeAs,
@@ -684,22 +790,6 @@ impl<
     K: SerializeAs,
     L: SerializeAs,
 > SerializeAs for (A, B, C, D, E, F, G, H, I, J, K, L) {
-    ghost tree = { λ left. tuple_tree
-        (joined (⟦<(A, (B, (C, (D, (E, (F, (G, (H, ())))))))) as SerializeFields>⟧.trees left)
-        (⟦<(I, (J, (K, (L, ())))) as SerializeFields>⟧.trees left)) };
-
-    ghost datum = { λ t. tuple
-        (joined_data
-        (⟦<(A, (B, (C, (D, (E, (F, (G, (H, ())))))))) as SerializeFields>⟧.content
-        (t.0, (t.1, (t.2, (t.3, (t.4, (t.5, (t.6, (t.7, tt)))))))))
-        (⟦<(I, (J, (K, (L, ())))) as SerializeFields>⟧.content (t.8, (t.9, (t.10, (t.11, tt)))))) };
-
-    ghost sound = { λ left. joined_sound
-        (⟦<(A, (B, (C, (D, (E, (F, (G, (H, ())))))))) as SerializeFields>⟧.trees left)
-        (⟦<(I, (J, (K, (L, ())))) as SerializeFields>⟧.trees left)
-        (⟦<(A, (B, (C, (D, (E, (F, (G, (H, ())))))))) as SerializeFields>⟧.sound left)
-        (⟦<(I, (J, (K, (L, ())))) as SerializeFields>⟧.sound left) };
-
     fn write(&self, writer: &mut Writer, left: usize, place: usize) -> Result<(), Error> {
         write_in_parts(
             &(
@@ -759,6 +849,58 @@ impl<
 }
 
 impl<
+    A: HasShape,
+    B: HasShape,
+    C: HasShape,
+    D: HasShape,
+    E: HasShape,
+    F: HasShape,
+    G: HasShape,
+    H: HasShape,
+    I: HasShape,
+    J: HasShape,
+    K: HasShape,
+    L: HasShape,
+    M: HasShape,
+> HasShape for (A, B, C, D, E, F, G, H, I, J, K, L, M) {
+    ghost tree = { λ left. tuple_tree
+        (joined (⟦<(A, (B, (C, (D, (E, (F, (G, (H, ())))))))) as HasShapes>⟧.trees left)
+        (⟦<(I, (J, (K, (L, (M, ()))))) as HasShapes>⟧.trees left)) };
+
+    ghost datum = { λ t. tuple
+        (joined_data
+        (⟦<(A, (B, (C, (D, (E, (F, (G, (H, ())))))))) as HasShapes>⟧.content (
+          t.0,
+          (
+            t.1.0,
+            (
+              t.1.1.0,
+              (
+                t.1.1.1.0,
+                (t.1.1.1.1.0, (t.1.1.1.1.1.0, (t.1.1.1.1.1.1.0, (t.1.1.1.1.1.1.1.0, tt)))),
+              ),
+            ),
+          ),
+        ))
+        (⟦<(I, (J, (K, (L, (M, ()))))) as HasShapes>⟧.content (
+          t.1.1.1.1.1.1.1.1.0,
+          (
+            t.1.1.1.1.1.1.1.1.1.0,
+            (
+              t.1.1.1.1.1.1.1.1.1.1.0,
+              (t.1.1.1.1.1.1.1.1.1.1.1.0, (t.1.1.1.1.1.1.1.1.1.1.1.1.0, tt)),
+            ),
+          ),
+        ))) };
+
+    ghost sound = { λ left. joined_sound
+        (⟦<(A, (B, (C, (D, (E, (F, (G, (H, ())))))))) as HasShapes>⟧.trees left)
+        (⟦<(I, (J, (K, (L, (M, ()))))) as HasShapes>⟧.trees left)
+        (⟦<(A, (B, (C, (D, (E, (F, (G, (H, ())))))))) as HasShapes>⟧.sound left)
+        (⟦<(I, (J, (K, (L, (M, ()))))) as HasShapes>⟧.sound left) };
+}
+
+impl<
     A: SerializeAs,
     B: SerializeAs,
     C: SerializeAs,
@@ -773,42 +915,6 @@ impl<
     L: SerializeAs,
     M: SerializeAs,
 > SerializeAs for (A, B, C, D, E, F, G, H, I, J, K, L, M) {
-    ghost tree = { λ left. tuple_tree
-        (joined (⟦<(A, (B, (C, (D, (E, (F, (G, (H, ())))))))) as SerializeFields>⟧.trees left)
-        (⟦<(I, (J, (K, (L, (M, ()))))) as SerializeFields>⟧.trees left)) };
-
-    ghost datum = { λ t. tuple
-        (joined_data
-        (⟦<(A, (B, (C, (D, (E, (F, (G, (H, ())))))))) as SerializeFields>⟧.content (
-          t.0,
-          (
-            t.1.0,
-            (
-              t.1.1.0,
-              (
-                t.1.1.1.0,
-                (t.1.1.1.1.0, (t.1.1.1.1.1.0, (t.1.1.1.1.1.1.0, (t.1.1.1.1.1.1.1.0, tt)))),
-              ),
-            ),
-          ),
-        ))
-        (⟦<(I, (J, (K, (L, (M, ()))))) as SerializeFields>⟧.content (
-          t.1.1.1.1.1.1.1.1.0,
-          (
-            t.1.1.1.1.1.1.1.1.1.0,
-            (
-              t.1.1.1.1.1.1.1.1.1.1.0,
-              (t.1.1.1.1.1.1.1.1.1.1.1.0, (t.1.1.1.1.1.1.1.1.1.1.1.1.0, tt)),
-            ),
-          ),
-        ))) };
-
-    ghost sound = { λ left. joined_sound
-        (⟦<(A, (B, (C, (D, (E, (F, (G, (H, ())))))))) as SerializeFields>⟧.trees left)
-        (⟦<(I, (J, (K, (L, (M, ()))))) as SerializeFields>⟧.trees left)
-        (⟦<(A, (B, (C, (D, (E, (F, (G, (H, ())))))))) as SerializeFields>⟧.sound left)
-        (⟦<(I, (J, (K, (L, (M, ()))))) as SerializeFields>⟧.sound left) };
-
     fn write(&self, writer: &mut Writer, left: usize, place: usize) -> Result<(), Error> {
         write_in_parts(
             &(
@@ -874,6 +980,62 @@ impl<
 }
 
 impl<
+    A: HasShape,
+    B: HasShape,
+    C: HasShape,
+    D: HasShape,
+    E: HasShape,
+    F: HasShape,
+    G: HasShape,
+    H: HasShape,
+    I: HasShape,
+    J: HasShape,
+    K: HasShape,
+    L: HasShape,
+    M: HasShape,
+    N: HasShape,
+> HasShape for (A, B, C, D, E, F, G, H, I, J, K, L, M, N) {
+    ghost tree = { λ left. tuple_tree
+        (joined (⟦<(A, (B, (C, (D, (E, (F, (G, (H, ())))))))) as HasShapes>⟧.trees left)
+        (⟦<(I, (J, (K, (L, (M, (N, ())))))) as HasShapes>⟧.trees left)) };
+
+    ghost datum = { λ t. tuple
+        (joined_data
+        (⟦<(A, (B, (C, (D, (E, (F, (G, (H, ())))))))) as HasShapes>⟧.content (
+          t.0,
+          (
+            t.1.0,
+            (
+              t.1.1.0,
+              (
+                t.1.1.1.0,
+                (t.1.1.1.1.0, (t.1.1.1.1.1.0, (t.1.1.1.1.1.1.0, (t.1.1.1.1.1.1.1.0, tt)))),
+              ),
+            ),
+          ),
+        ))
+        (⟦<(I, (J, (K, (L, (M, (N, ())))))) as HasShapes>⟧.content (
+          t.1.1.1.1.1.1.1.1.0,
+          (
+            t.1.1.1.1.1.1.1.1.1.0,
+            (
+              t.1.1.1.1.1.1.1.1.1.1.0,
+              (
+                t.1.1.1.1.1.1.1.1.1.1.1.0,
+                (t.1.1.1.1.1.1.1.1.1.1.1.1.0, (t.1.1.1.1.1.1.1.1.1.1.1.1.1.0, tt)),
+              ),
+            ),
+          ),
+        ))) };
+
+    ghost sound = { λ left. joined_sound
+        (⟦<(A, (B, (C, (D, (E, (F, (G, (H, ())))))))) as HasShapes>⟧.trees left)
+        (⟦<(I, (J, (K, (L, (M, (N, ())))))) as HasShapes>⟧.trees left)
+        (⟦<(A, (B, (C, (D, (E, (F, (G, (H, ())))))))) as HasShapes>⟧.sound left)
+        (⟦<(I, (J, (K, (L, (M, (N, ())))))) as HasShapes>⟧.sound left) };
+}
+
+impl<
     A: SerializeAs,
     B: SerializeAs,
     C: SerializeAs,
@@ -889,45 +1051,6 @@ impl<
     M: SerializeAs,
     N: SerializeAs,
 > SerializeAs for (A, B, C, D, E, F, G, H, I, J, K, L, M, N) {
-    ghost tree = { λ left. tuple_tree
-        (joined (⟦<(A, (B, (C, (D, (E, (F, (G, (H, ())))))))) as SerializeFields>⟧.trees left)
-        (⟦<(I, (J, (K, (L, (M, (N, ())))))) as SerializeFields>⟧.trees left)) };
-
-    ghost datum = { λ t. tuple
-        (joined_data
-        (⟦<(A, (B, (C, (D, (E, (F, (G, (H, ())))))))) as SerializeFields>⟧.content (
-          t.0,
-          (
-            t.1.0,
-            (
-              t.1.1.0,
-              (
-                t.1.1.1.0,
-                (t.1.1.1.1.0, (t.1.1.1.1.1.0, (t.1.1.1.1.1.1.0, (t.1.1.1.1.1.1.1.0, tt)))),
-              ),
-            ),
-          ),
-        ))
-        (⟦<(I, (J, (K, (L, (M, (N, ())))))) as SerializeFields>⟧.content (
-          t.1.1.1.1.1.1.1.1.0,
-          (
-            t.1.1.1.1.1.1.1.1.1.0,
-            (
-              t.1.1.1.1.1.1.1.1.1.1.0,
-              (
-                t.1.1.1.1.1.1.1.1.1.1.1.0,
-                (t.1.1.1.1.1.1.1.1.1.1.1.1.0, (t.1.1.1.1.1.1.1.1.1.1.1.1.1.0, tt)),
-              ),
-            ),
-          ),
-        ))) };
-
-    ghost sound = { λ left. joined_sound
-        (⟦<(A, (B, (C, (D, (E, (F, (G, (H, ())))))))) as SerializeFields>⟧.trees left)
-        (⟦<(I, (J, (K, (L, (M, (N, ())))))) as SerializeFields>⟧.trees left)
-        (⟦<(A, (B, (C, (D, (E, (F, (G, (H, ())))))))) as SerializeFields>⟧.sound left)
-        (⟦<(I, (J, (K, (L, (M, (N, ())))))) as SerializeFields>⟧.sound left) };
-
     fn write(&self, writer: &mut Writer, left: usize, place: usize) -> Result<(), Error> {
         write_in_parts(
             &(
@@ -997,29 +1120,29 @@ impl<
 }
 
 impl<
-    A: SerializeAs,
-    B: SerializeAs,
-    C: SerializeAs,
-    D: SerializeAs,
-    E: SerializeAs,
-    F: SerializeAs,
-    G: SerializeAs,
-    H: SerializeAs,
-    I: SerializeAs,
-    J: SerializeAs,
-    K: SerializeAs,
-    L: SerializeAs,
-    M: SerializeAs,
-    N: SerializeAs,
-    O: SerializeAs,
-> SerializeAs for (A, B, C, D, E, F, G, H, I, J, K, L, M, N, O) {
+    A: HasShape,
+    B: HasShape,
+    C: HasShape,
+    D: HasShape,
+    E: HasShape,
+    F: HasShape,
+    G: HasShape,
+    H: HasShape,
+    I: HasShape,
+    J: HasShape,
+    K: HasShape,
+    L: HasShape,
+    M: HasShape,
+    N: HasShape,
+    O: HasShape,
+> HasShape for (A, B, C, D, E, F, G, H, I, J, K, L, M, N, O) {
     ghost tree = { λ left. tuple_tree
-        (joined (⟦<(A, (B, (C, (D, (E, (F, (G, (H, ())))))))) as SerializeFields>⟧.trees left)
-        (⟦<(I, (J, (K, (L, (M, (N, (O, ()))))))) as SerializeFields>⟧.trees left)) };
+        (joined (⟦<(A, (B, (C, (D, (E, (F, (G, (H, ())))))))) as HasShapes>⟧.trees left)
+        (⟦<(I, (J, (K, (L, (M, (N, (O, ()))))))) as HasShapes>⟧.trees left)) };
 
     ghost datum = { λ t. tuple
         (joined_data
-        (⟦<(A, (B, (C, (D, (E, (F, (G, (H, ())))))))) as SerializeFields>⟧.content (
+        (⟦<(A, (B, (C, (D, (E, (F, (G, (H, ())))))))) as HasShapes>⟧.content (
           t.0,
           (
             t.1.0,
@@ -1032,7 +1155,7 @@ impl<
             ),
           ),
         ))
-        (⟦<(I, (J, (K, (L, (M, (N, (O, ()))))))) as SerializeFields>⟧.content (
+        (⟦<(I, (J, (K, (L, (M, (N, (O, ()))))))) as HasShapes>⟧.content (
           t.1.1.1.1.1.1.1.1.0,
           (
             t.1.1.1.1.1.1.1.1.1.0,
@@ -1050,11 +1173,29 @@ impl<
         ))) };
 
     ghost sound = { λ left. joined_sound
-        (⟦<(A, (B, (C, (D, (E, (F, (G, (H, ())))))))) as SerializeFields>⟧.trees left)
-        (⟦<(I, (J, (K, (L, (M, (N, (O, ()))))))) as SerializeFields>⟧.trees left)
-        (⟦<(A, (B, (C, (D, (E, (F, (G, (H, ())))))))) as SerializeFields>⟧.sound left)
-        (⟦<(I, (J, (K, (L, (M, (N, (O, ()))))))) as SerializeFields>⟧.sound left) };
+        (⟦<(A, (B, (C, (D, (E, (F, (G, (H, ())))))))) as HasShapes>⟧.trees left)
+        (⟦<(I, (J, (K, (L, (M, (N, (O, ()))))))) as HasShapes>⟧.trees left)
+        (⟦<(A, (B, (C, (D, (E, (F, (G, (H, ())))))))) as HasShapes>⟧.sound left)
+        (⟦<(I, (J, (K, (L, (M, (N, (O, ()))))))) as HasShapes>⟧.sound left) };
+}
 
+impl<
+    A: SerializeAs,
+    B: SerializeAs,
+    C: SerializeAs,
+    D: SerializeAs,
+    E: SerializeAs,
+    F: SerializeAs,
+    G: SerializeAs,
+    H: SerializeAs,
+    I: SerializeAs,
+    J: SerializeAs,
+    K: SerializeAs,
+    L: SerializeAs,
+    M: SerializeAs,
+    N: SerializeAs,
+    O: SerializeAs,
+> SerializeAs for (A, B, C, D, E, F, G, H, I, J, K, L, M, N, O) {
     fn write(&self, writer: &mut Writer, left: usize, place: usize) -> Result<(), Error> {
         write_in_parts(
             &(
@@ -1128,30 +1269,30 @@ impl<
 }
 
 impl<
-    A: SerializeAs,
-    B: SerializeAs,
-    C: SerializeAs,
-    D: SerializeAs,
-    E: SerializeAs,
-    F: SerializeAs,
-    G: SerializeAs,
-    H: SerializeAs,
-    I: SerializeAs,
-    J: SerializeAs,
-    K: SerializeAs,
-    L: SerializeAs,
-    M: SerializeAs,
-    N: SerializeAs,
-    O: SerializeAs,
-    P: SerializeAs,
-> SerializeAs for (A, B, C, D, E, F, G, H, I, J, K, L, M, N, O, P) {
+    A: HasShape,
+    B: HasShape,
+    C: HasShape,
+    D: HasShape,
+    E: HasShape,
+    F: HasShape,
+    G: HasShape,
+    H: HasShape,
+    I: HasShape,
+    J: HasShape,
+    K: HasShape,
+    L: HasShape,
+    M: HasShape,
+    N: HasShape,
+    O: HasShape,
+    P: HasShape,
+> HasShape for (A, B, C, D, E, F, G, H, I, J, K, L, M, N, O, P) {
     ghost tree = { λ left. tuple_tree
-        (joined (⟦<(A, (B, (C, (D, (E, (F, (G, (H, ())))))))) as SerializeFields>⟧.trees left)
-        (⟦<(I, (J, (K, (L, (M, (N, (O, (P, ())))))))) as SerializeFields>⟧.trees left)) };
+        (joined (⟦<(A, (B, (C, (D, (E, (F, (G, (H, ())))))))) as HasShapes>⟧.trees left)
+        (⟦<(I, (J, (K, (L, (M, (N, (O, (P, ())))))))) as HasShapes>⟧.trees left)) };
 
     ghost datum = { λ t. tuple
         (joined_data
-        (⟦<(A, (B, (C, (D, (E, (F, (G, (H, ())))))))) as SerializeFields>⟧.content (
+        (⟦<(A, (B, (C, (D, (E, (F, (G, (H, ())))))))) as HasShapes>⟧.content (
           t.0,
           (
             t.1.0,
@@ -1164,7 +1305,7 @@ impl<
             ),
           ),
         ))
-        (⟦<(I, (J, (K, (L, (M, (N, (O, (P, ())))))))) as SerializeFields>⟧.content (
+        (⟦<(I, (J, (K, (L, (M, (N, (O, (P, ())))))))) as HasShapes>⟧.content (
           t.1.1.1.1.1.1.1.1.0,
           (
             t.1.1.1.1.1.1.1.1.1.0,
@@ -1185,11 +1326,30 @@ impl<
         ))) };
 
     ghost sound = { λ left. joined_sound
-        (⟦<(A, (B, (C, (D, (E, (F, (G, (H, ())))))))) as SerializeFields>⟧.trees left)
-        (⟦<(I, (J, (K, (L, (M, (N, (O, (P, ())))))))) as SerializeFields>⟧.trees left)
-        (⟦<(A, (B, (C, (D, (E, (F, (G, (H, ())))))))) as SerializeFields>⟧.sound left)
-        (⟦<(I, (J, (K, (L, (M, (N, (O, (P, ())))))))) as SerializeFields>⟧.sound left) };
+        (⟦<(A, (B, (C, (D, (E, (F, (G, (H, ())))))))) as HasShapes>⟧.trees left)
+        (⟦<(I, (J, (K, (L, (M, (N, (O, (P, ())))))))) as HasShapes>⟧.trees left)
+        (⟦<(A, (B, (C, (D, (E, (F, (G, (H, ())))))))) as HasShapes>⟧.sound left)
+        (⟦<(I, (J, (K, (L, (M, (N, (O, (P, ())))))))) as HasShapes>⟧.sound left) };
+}
 
+impl<
+    A: SerializeAs,
+    B: SerializeAs,
+    C: SerializeAs,
+    D: SerializeAs,
+    E: SerializeAs,
+    F: SerializeAs,
+    G: SerializeAs,
+    H: SerializeAs,
+    I: SerializeAs,
+    J: SerializeAs,
+    K: SerializeAs,
+    L: SerializeAs,
+    M: SerializeAs,
+    N: SerializeAs,
+    O: SerializeAs,
+    P: SerializeAs,
+> SerializeAs for (A, B, C, D, E, F, G, H, I, J, K, L, M, N, O, P) {
     fn write(&self, writer: &mut Writer, left: usize, place: usize) -> Result<(), Error> {
         write_in_parts(
             &(

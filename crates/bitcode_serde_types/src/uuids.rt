@@ -6,6 +6,7 @@ ghost use Rattle.bitcode_shapes.specs.LawfulInts.{width_1};
 ghost use Rattle.bitcode_serde_types.specs.Uuids.{uuid_datum, uuid_tree};
 
 use crate::deserialize_as::DeserializeAs;
+use crate::has_shape::HasShape;
 use crate::lists::write_lent;
 use crate::sequences::{Limits, read_limited};
 use crate::serialize_as::SerializeAs;
@@ -16,13 +17,15 @@ use bitcode_serde::writer::Writer;
 use std::alloc::Global;
 use uuid::Uuid;
 
-impl SerializeAs for Uuid {
+impl HasShape for Uuid {
     ghost tree = { λ left. uuid_tree };
 
     ghost datum = { uuid_datum };
 
     ghost sound = { λ left. (width_1, refl) };
+}
 
+impl SerializeAs for Uuid {
     fn write(&self, writer: &mut Writer, left: usize, place: usize) -> Result<(), Error> {
         let bytes = self.into_bytes();
         write_lent(bytes.as_slice().iter(), 16, writer, left, place)

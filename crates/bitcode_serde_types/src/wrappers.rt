@@ -2,6 +2,7 @@
 #![tactic(auto)]
 
 use crate::deserialize_as::DeserializeAs;
+use crate::has_shape::HasShape;
 use crate::serialize_as::SerializeAs;
 use bitcode_memory::error::Error;
 use bitcode_serde::budget::Budget;
@@ -10,13 +11,15 @@ use bitcode_serde::writer::Writer;
 use std::alloc::Global;
 use std::num::{Saturating, Wrapping};
 
-impl<T: SerializeAs> SerializeAs for Wrapping<T> {
+impl<T: HasShape> HasShape for Wrapping<T> {
     ghost tree = { T.tree };
 
     ghost datum = { λ t. T.datum t.0 };
 
     ghost sound = { T.sound };
+}
 
+impl<T: SerializeAs> SerializeAs for Wrapping<T> {
     fn write(&self, writer: &mut Writer, left: usize, place: usize) -> Result<(), Error> {
         self.0.write(writer, left, place)
     }
@@ -39,13 +42,15 @@ impl<'a, T: DeserializeAs<'a>> DeserializeAs<'a> for Wrapping<T> {
     }
 }
 
-impl<T: SerializeAs> SerializeAs for Saturating<T> {
+impl<T: HasShape> HasShape for Saturating<T> {
     ghost tree = { T.tree };
 
     ghost datum = { λ t. T.datum t.0 };
 
     ghost sound = { T.sound };
+}
 
+impl<T: SerializeAs> SerializeAs for Saturating<T> {
     fn write(&self, writer: &mut Writer, left: usize, place: usize) -> Result<(), Error> {
         self.0.write(writer, left, place)
     }

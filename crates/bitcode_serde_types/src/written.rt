@@ -5,6 +5,7 @@ pub use crate::entering::{
     enter_list, enter_map, enter_variant, find_field, follow, read_at, read_field,
 };
 pub use crate::fields::write_tuple;
+pub use crate::has_shape::HasShape;
 pub use crate::maps::{hashed_map, ordered_map};
 pub use crate::read_fields::{DeserializeFields, read_some, read_tuple};
 pub use crate::serialize_as::SerializeAs;

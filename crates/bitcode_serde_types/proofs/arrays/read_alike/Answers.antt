@@ -14,11 +14,11 @@ use Rattle.bitcode_serde_types.proofs.arrays.read_alike.Goals as goal
 
 pub loop-i-init : goal.loop-i-init
 loop-i-init g c =
-    let s = g.T.SerializeAs.tree c.args.left in
+    let s = g.T.HasShape.tree c.args.left in
     let trees = repeated c.args.count s in
     let empty = c.new-items.ensures.items in
     let all : c.args.count ≡ c.args.count - 0 = omega arith in (
-      subst (λ xs. FieldsKept trees c.args.place c.args.reader.now c.take.new.self 0 (map g.T.SerializeAs.datum xs) (repeated (c.args.count - 0) s) c.args.reader.now c.take.new.self)
+      subst (λ xs. FieldsKept trees c.args.place c.args.reader.now c.take.new.self 0 (map g.T.HasShape.datum xs) (repeated (c.args.count - 0) s) c.args.reader.now c.take.new.self)
           (sym empty)
           (subst (λ k. FieldsKept trees c.args.place c.args.reader.now c.take.new.self 0 [] (repeated k s) c.args.reader.now c.take.new.self) all
           (no_fields_kept trees c.args.place c.args.reader.now c.take.new.self c.requires.steady)),
@@ -32,13 +32,13 @@ read_field-requires g c κs =
 
 pub returns-in_err-item-clause-refused : goal.returns-in_err-item-clause-refused
 returns-in_err-item-clause-refused g c =
-    let s = g.T.SerializeAs.tree c.args.left in
+    let s = g.T.HasShape.tree c.args.left in
     let l = c.loop-i in
     let trees = repeated c.args.count s in
     let rest = repeated (c.args.count - (l.i + 1)) s in
     let more : c.args.count - l.i ≡ suc (c.args.count - (l.i + 1)) = omega arith in
     let next : repeated (c.args.count - l.i) s ≡ tree_and s rest = ap (λ k. repeated k s) more in
-    let k = subst (λ ss. FieldsKept trees c.args.place c.args.reader.now c.take.new.self l.i (map g.T.SerializeAs.datum l.items.items) ss l.reader l.budget) next l.invariant.0 in
+    let k = subst (λ ss. FieldsKept trees c.args.place c.args.reader.now c.take.new.self l.i (map g.T.HasShape.datum l.items.items) ss l.reader l.budget) next l.invariant.0 in
     let y = err_from_is_err_and c.from_residual.result c.from_residual.ensures.1 in
     passed_on (λ e. IsRefusalAt (array_tree c.args.count s) c.args.place c.args.reader.now e.reason) c.from_residual.result c.in_err-item.field-0.0 y.0 y.1 y.2
     (field_not_kept trees c.args.place c.args.reader.now c.take.new.self k _
@@ -46,8 +46,8 @@ returns-in_err-item-clause-refused g c =
 
 pub loop-i-preserved : goal.loop-i-preserved
 loop-i-preserved g c =
-    let s = g.T.SerializeAs.tree c.args.left in
-    let f = g.T.SerializeAs.datum in
+    let s = g.T.HasShape.tree c.args.left in
+    let f = g.T.HasShape.datum in
     let l = c.loop-i in
     let t = c.in_ok-item.item in
     let trees = repeated c.args.count s in
@@ -68,8 +68,8 @@ loop-i-preserved g c =
 
 pub returns-clause-read : goal.returns-clause-read
 returns-clause-read g c =
-    let s = g.T.SerializeAs.tree c.args.left in
-    let f = g.T.SerializeAs.datum in
+    let s = g.T.HasShape.tree c.args.left in
+    let f = g.T.HasShape.datum in
     let l = c.loop-i in
     let trees = repeated c.args.count s in
     let none : c.args.count - l.i ≡ 0 = omega arith in

@@ -11,7 +11,7 @@ returns-in_err-write_fields g c =
     let x = c.index-items-i.result in
     let y = err_from_is_err_and c.from_residual.result c.from_residual.ensures.1 in
     rw (y.1, y.2)
-    (one_refused (g.T.SerializeAs.tree c.args.left) g.T.SerializeAs.datum xs c.args.writer.now c.args.place l.i x l.writer c.write_fields.new.writer
+    (one_refused (g.T.HasShape.tree c.args.left) g.T.HasShape.datum xs c.args.writer.now c.args.place l.i x l.writer c.write_fields.new.writer
     c.in_err-write_fields.field-0.0 c.loop-i-test.true (found_entry xs l.i x c.loop-i-test.true c.index-items-i.is) l.invariant c.requires
     c.in_err-write_fields.ensures)
 
@@ -20,5 +20,5 @@ loop-i-preserved g c =
     let xs = c.args.items.now in
     let l = c.loop-i in
     let x = c.index-items-i.result in
-    first_written (g.T.SerializeAs.tree c.args.left) g.T.SerializeAs.datum xs c.args.writer.now c.args.place l.i x l.writer c.write_fields.new.writer
+    first_written (g.T.HasShape.tree c.args.left) g.T.HasShape.datum xs c.args.writer.now c.args.place l.i x l.writer c.write_fields.new.writer
     c.loop-i-test.true (found_entry xs l.i x c.loop-i-test.true c.index-items-i.is) l.invariant c.requires c.in_ok-write_fields.ensures

@@ -5,4 +5,4 @@ use Rattle.bitcode_serde_types.proofs.arrays.write_alike.Given as goal
 
 abbrev pub invariant-loop-i : goal.invariant-loop-i
 invariant-loop-i g l =
-    AlikeOutcome (g.T.SerializeAs.tree l.left) g.T.SerializeAs.datum l.initial.writer l.place (length l.items) (take l.i l.items) (Ok (tt {0})) l.writer
+    AlikeOutcome (g.T.HasShape.tree l.left) g.T.HasShape.datum l.initial.writer l.place (length l.items) (take l.i l.items) (Ok (tt {0})) l.writer

@@ -17,7 +17,7 @@ read-requires g c =
 
 pub returns-in_err-value-clause-refused : goal.returns-in_err-value-clause-refused
 returns-in_err-value-clause-refused g c =
-    let s = g.T.SerializeAs.tree c.args.left in
+    let s = g.T.HasShape.tree c.args.left in
     let y = err_from_is_err_and c.from_residual-in_err-value.result c.from_residual-in_err-value.ensures.1 in
     passed_on (λ e. IsFieldRefusalAt s c.args.place c.args.i c.args.fields c.args.reader.now e.reason) c.from_residual-in_err-value.result
     c.in_err-value.field-0.0 y.0 y.1 y.2
@@ -41,7 +41,7 @@ returns-clause-read g c =
     let k = c.in_ok-value.ensures.read in
     record {
       datum = k.datum;
-      read = field_inside (g.T.SerializeAs.tree c.args.left) c.args.place c.args.i c.args.fields c.args.reader.now c.field.new.self c.in_ok-inside.inside
+      read = field_inside (g.T.HasShape.tree c.args.left) c.args.place c.args.i c.args.fields c.args.reader.now c.field.new.self c.in_ok-inside.inside
           c.in_ok-inside.ensures.found c.in_ok-inside.ensures.stands k.datum c.read.new.reader k.read;
       taken = k.taken;
       same = k.same;

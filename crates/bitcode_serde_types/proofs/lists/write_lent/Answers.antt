@@ -11,7 +11,7 @@ use Rattle.bitcode_serde_types.proofs.lists.write_lent.Goals as goal
 
 pub returns-in_err-put : goal.returns-in_err-put
 returns-in_err-put g c =
-    let s = g.T.SerializeAs.tree c.args.left in
+    let s = g.T.HasShape.tree c.args.left in
     let y = err_from_is_err_and c.from_residual.result c.from_residual.ensures.1 in
     refused_outcome c.args.writer.now (seq_tree s) c.args.place _ _ c.from_residual.result c.put.new.self c.in_err-put.field-0.0 y.0 y.1 y.2
     (refuses_use c.args.writer.now (seq_tree s) c.args.place _ _ (place_in c.args.writer.now c.args.place) length_kind c.in_err-put.ensures.refused
@@ -25,8 +25,8 @@ write-requires g c =
 
 pub returns-in_err-write : goal.returns-in_err-write
 returns-in_err-write g c =
-    let s = g.T.SerializeAs.tree c.args.left in
-    let f = g.T.SerializeAs.datum in
+    let s = g.T.HasShape.tree c.args.left in
+    let f = g.T.HasShape.datum in
     let xs = g.L.Lends.rest c.args.lent in
     let l = c.loop-value in
     let old = c.args.writer.now in
@@ -43,7 +43,7 @@ pub loop-value-preserved : goal.loop-value-preserved
 loop-value-preserved g c =
     let l = c.loop-value in (
       l.invariant.0,
-      lent_more (g.T.SerializeAs.tree c.args.left) g.T.SerializeAs.datum (g.L.Lends.rest c.args.lent) c.element_below.new.writer c.in_ok-element.element
+      lent_more (g.T.HasShape.tree c.args.left) g.T.HasShape.datum (g.L.Lends.rest c.args.lent) c.element_below.new.writer c.in_ok-element.element
           l.invariant.0 (g.L.Lends.rest l.lent) (g.L.Lends.rest c.lend.new.self) c.in-Some.value.now l.writer c.write.new.writer l.invariant.1
           c.in-Some.ensures.next c.in_ok-write.ensures.written c.in_ok-write.ensures.of_tree c.in_ok-write.ensures.whole,
     )
@@ -51,13 +51,13 @@ loop-value-preserved g c =
 pub loop-value-init : goal.loop-value-init
 loop-value-init g c = (
   c.in_ok-element.ensures.inside,
-  none_lent (g.T.SerializeAs.tree c.args.left) g.T.SerializeAs.datum (g.L.Lends.rest c.args.lent) c.element_below.new.writer c.in_ok-element.element,
+  none_lent (g.T.HasShape.tree c.args.left) g.T.HasShape.datum (g.L.Lends.rest c.args.lent) c.element_below.new.writer c.in_ok-element.element,
 )
 
 pub returns : goal.returns
 returns g c =
-    let s = g.T.SerializeAs.tree c.args.left in
-    let f = g.T.SerializeAs.datum in
+    let s = g.T.HasShape.tree c.args.left in
+    let f = g.T.HasShape.datum in
     let xs = g.L.Lends.rest c.args.lent in
     let l = c.loop-value in
     let old = c.args.writer.now in

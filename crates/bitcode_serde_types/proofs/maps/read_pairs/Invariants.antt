@@ -3,5 +3,5 @@ use Rattle.bitcode_serde_types.proofs.maps.read_pairs.Given as goal
 
 abbrev pub invariant-loop-i : goal.invariant-loop-i
 invariant-loop-i g l =
-    PairsKept g.K.SerializeAs.datum g.V.SerializeAs.datum (g.K.SerializeAs.tree l.left) (g.V.SerializeAs.tree l.left) l.found.keys l.found.values
+    PairsKept g.K.HasShape.datum g.V.HasShape.datum (g.K.HasShape.tree l.left) (g.V.HasShape.tree l.left) l.found.keys l.found.values
     l.initial.reader l.initial.budget l._i l.pairs.items l.reader l.budget

@@ -14,8 +14,8 @@ use Rattle.bitcode_serde_types.proofs.parts.read_in_parts.Goals as goal
 
 pub returns-in_err-first-clause-refused : goal.returns-in_err-first-clause-refused
 returns-in_err-first-clause-refused g c =
-    let ps = g.P.DeserializeFields.trees c.args.left in
-    let rs = g.R.DeserializeFields.trees c.args.left in
+    let ps = g.P.HasShapes.trees c.args.left in
+    let rs = g.R.HasShapes.trees c.args.left in
     let first = c.requires.first in
     let all = c.requires.all in
     let total : c.args.count ≡ tree_count (joined ps rs) = omega (arith, joined_count ps rs, first, all) in
@@ -34,8 +34,8 @@ read_fields-requires-2 g c κs =
 
 pub returns-in_err-rest-clause-refused : goal.returns-in_err-rest-clause-refused
 returns-in_err-rest-clause-refused g c =
-    let ps = g.P.DeserializeFields.trees c.args.left in
-    let rs = g.R.DeserializeFields.trees c.args.left in
+    let ps = g.P.HasShapes.trees c.args.left in
+    let rs = g.R.HasShapes.trees c.args.left in
     let first = c.requires.first in
     let all = c.requires.all in
     let total : c.args.count ≡ tree_count (joined ps rs) = omega (arith, joined_count ps rs, first, all) in
@@ -46,7 +46,7 @@ returns-in_err-rest-clause-refused g c =
     passed_on (λ e. IsRefusalAt (tuple_tree (joined ps rs)) c.args.place c.args.reader.now e.reason) c.from_residual-in_err-rest.result c.in_err-rest.field-0.0 y.0 y.1 y.2
     (fields_refused (joined ps rs) c.args.place c.args.reader.now why
     (subst (λ n. IsFieldsRefusalAt (joined ps rs) c.args.place 0 n c.args.reader.now why) total
-    (rest_part_refused ps rs c.args.place 0 c.args.count c.args.reader.now g.P.DeserializeFields.content c.in_ok-first.first c.take.new.self
+    (rest_part_refused ps rs c.args.place 0 c.args.count c.args.reader.now g.P.HasShapes.content c.in_ok-first.first c.take.new.self
     c.read_fields.new.budget mid c.in_ok-first.ensures.continues c.in_ok-first.ensures.read why
     (subst (λ i. IsFieldsRefusalAt rs c.args.place i c.args.count mid why) behind c.in_err-rest.ensures.refused))))
 
@@ -56,10 +56,10 @@ returns-clause-continues g c =
 
 pub returns-clause-read : goal.returns-clause-read
 returns-clause-read g c =
-    let ps = g.P.DeserializeFields.trees c.args.left in
-    let rs = g.R.DeserializeFields.trees c.args.left in
-    let f = g.P.DeserializeFields.content in
-    let h = g.R.DeserializeFields.content in
+    let ps = g.P.HasShapes.trees c.args.left in
+    let rs = g.R.HasShapes.trees c.args.left in
+    let f = g.P.HasShapes.content in
+    let h = g.R.HasShapes.content in
     let first = c.requires.first in
     let all = c.requires.all in
     let total : c.args.count ≡ tree_count (joined ps rs) = omega (arith, joined_count ps rs, first, all) in

@@ -12,10 +12,10 @@ use Rattle.bitcode_serde_types.proofs.parts.write_in_parts.Goals as goal
 
 pub returns-in_err-write_fields : goal.returns-in_err-write_fields
 returns-in_err-write_fields g c =
-    let ps = g.P.SerializeFields.trees c.args.left in
-    let rs = g.R.SerializeFields.trees c.args.left in
-    let ds = g.P.SerializeFields.content c.args.first.now in
-    let es = g.R.SerializeFields.content c.args.rest.now in
+    let ps = g.P.HasShapes.trees c.args.left in
+    let rs = g.R.HasShapes.trees c.args.left in
+    let ds = g.P.HasShapes.content c.args.first.now in
+    let es = g.R.HasShapes.content c.args.rest.now in
     let first = c.requires.first in
     let all = c.requires.all in
     let total : c.args.count ≡ tree_count (joined ps rs) = omega (arith, joined_count ps rs, first, all) in
@@ -30,10 +30,10 @@ returns-in_err-write_fields g c =
 
 pub returns : goal.returns
 returns g c =
-    let ps = g.P.SerializeFields.trees c.args.left in
-    let rs = g.R.SerializeFields.trees c.args.left in
-    let ds = g.P.SerializeFields.content c.args.first.now in
-    let es = g.R.SerializeFields.content c.args.rest.now in
+    let ps = g.P.HasShapes.trees c.args.left in
+    let rs = g.R.HasShapes.trees c.args.left in
+    let ds = g.P.HasShapes.content c.args.first.now in
+    let es = g.R.HasShapes.content c.args.rest.now in
     let first = c.requires.first in
     let all = c.requires.all in
     let total : c.args.count ≡ tree_count (joined ps rs) = omega (arith, joined_count ps rs, first, all) in

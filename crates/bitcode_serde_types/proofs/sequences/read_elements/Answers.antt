@@ -15,26 +15,26 @@ use Rattle.bitcode_serde_types.proofs.sequences.read_elements.Goals as goal
 pub read-requires : goal.read-requires
 read-requires g c =
     let l = c.loop-i in
-    let h = elements_there g.T.SerializeAs.datum (g.T.SerializeAs.tree c.args.left) c.args.list.place c.args.reader.now l.reader c.args.budget.now l.budget l._i
+    let h = elements_there g.T.HasShape.datum (g.T.HasShape.tree c.args.left) c.args.list.place c.args.reader.now l.reader c.args.budget.now l.budget l._i
     l.values.items l.invariant.0 c.requires.place in
     let s = l.invariant.0.0.steady in
     search (rules, h, s)
 
 pub returns-in_err-value-clause-refused : goal.returns-in_err-value-clause-refused
 returns-in_err-value-clause-refused g c =
-    let s = g.T.SerializeAs.tree c.args.left in
+    let s = g.T.HasShape.tree c.args.left in
     let l = c.loop-i in
     let y = err_from_is_err_and c.from_residual-in_err-value.result c.from_residual-in_err-value.ensures.1 in
     let lt : l._i < c.args.list.count = omega arith in
     passed_on (λ e. IsListRefusalAt s c.args.list.place c.args.reader.now c.args.list.count e.reason) c.from_residual-in_err-value.result c.in_err-value.field-0.0 y.0 y.1 y.2
-    (element_refused g.T.SerializeAs.datum s c.args.list.place c.args.reader.now l.reader c.args.budget.now l.budget l._i l.values.items l.invariant.0
+    (element_refused g.T.HasShape.datum s c.args.list.place c.args.reader.now l.reader c.args.budget.now l.budget l._i l.values.items l.invariant.0
     c.args.list.count _ lt c.in_err-value.ensures.refused)
 
 pub loop-i-preserved : goal.loop-i-preserved
 loop-i-preserved g c =
     let l = c.loop-i in
     let one = c.in_ok-value.ensures.read in (
-      elements_more g.T.SerializeAs.datum (g.T.SerializeAs.tree c.args.left) c.args.list.place c.args.reader.now l.reader c.args.budget.now l.budget l._i
+      elements_more g.T.HasShape.datum (g.T.HasShape.tree c.args.left) c.args.list.place c.args.reader.now l.reader c.args.budget.now l.budget l._i
           l.values.items l.invariant.0 c.read.new.reader c.read.new.budget c.keep.new.items.items c.in_ok-value.value c.in_ok-value.ensures.continues one
           c.in_ok-keep.ensures.kept,
       λ left.
@@ -46,7 +46,7 @@ pub returns-clause-read : goal.returns-clause-read
 returns-clause-read g c =
     let l = c.loop-i in
     let e : l._i ≡ c.args.list.count = omega arith in
-    subst (λ n. ReadsEachAs g.T.SerializeAs.datum (g.T.SerializeAs.tree c.args.left) c.args.list.place c.args.reader.now c.args.budget.now n l.values.items
+    subst (λ n. ReadsEachAs g.T.HasShape.datum (g.T.HasShape.tree c.args.left) c.args.list.place c.args.reader.now c.args.budget.now n l.values.items
     l.reader l.budget) e l.invariant.0.1
 
 pub returns-clause-all : goal.returns-clause-all
@@ -60,8 +60,8 @@ returns-then-is_free-clause-all g c = λ left. absurd (subst IsLeft c.if-is_spen
 
 pub returns-then-is_free-clause-read : goal.returns-then-is_free-clause-read
 returns-then-is_free-clause-read g c =
-    let datum = g.T.SerializeAs.datum in
-    let s = g.T.SerializeAs.tree c.args.left in
+    let datum = g.T.HasShape.datum in
+    let s = g.T.HasShape.tree c.args.left in
     let l = c.loop-i in
     let place = c.args.list.place in
     let old = c.args.reader.now in
@@ -70,6 +70,6 @@ returns-then-is_free-clause-read g c =
     let all : l._i + (c.args.list.count - l._i) ≡ c.args.list.count = omega arith in
     let so_far = subst (ReadsEachAs datum s place old c.args.budget.now l._i l.values.items l.reader) gone l.invariant.0.1 in
     let rest = rest_kept datum s place old l.reader c.args.budget.now l.values.items (c.args.list.count - l._i) l._i l.invariant.0.0
-    (g.T.SerializeAs.sound c.args.left) free so_far in
+    (g.T.HasShape.sound c.args.left) free so_far in
     subst (ReadsEachAs datum s place old c.args.budget.now c.args.list.count l.values.items l.reader) (sym gone)
     (subst (λ n. ReadsEachAs datum s place old c.args.budget.now n l.values.items l.reader Spent) all rest)

@@ -1,5 +1,5 @@
 -- The elements of a list of such a length, as those of any list.
-use Rattle.std.proofs.Common.{arith, inl, inr, refl, ◌≡◌, ◌∙◌, ◌≤◌}
+use Rattle.std.proofs.Common.{arith, inl, inr, refl, ◌∙◌}
 use Rattle.std.proofs.lemmas.Result.{err_from_is_err_and}
 use Rattle.bitcode_untyped.specs.ShapeTree.{seq_tree}
 use Rattle.bitcode_serde.proofs.ColumnLemmas.{passed_on}
@@ -14,7 +14,7 @@ use Rattle.bitcode_serde_types.proofs.sequences.read_limited.Goals as goal
 
 pub returns-in_err-list-clause-refused : goal.returns-in_err-list-clause-refused
 returns-in_err-list-clause-refused g c =
-    let s = g.T.SerializeAs.tree c.args.left in
+    let s = g.T.HasShape.tree c.args.left in
     let l = c.args.limits in
     let y = err_from_is_err_and c.from_residual.result c.from_residual.ensures.1 in
     passed_on (λ e. IsRefusalAt (limited_tree l.least l.most l.otherwise s) c.args.place c.args.reader.now e.reason) c.from_residual.result
@@ -24,7 +24,7 @@ returns-in_err-list-clause-refused g c =
 
 pub returns-in_err-values-clause-refused : goal.returns-in_err-values-clause-refused
 returns-in_err-values-clause-refused g c =
-    let s = g.T.SerializeAs.tree c.args.left in
+    let s = g.T.HasShape.tree c.args.left in
     let l = c.args.limits in
     let y = err_from_is_err_and c.from_residual-in_err-values.result c.from_residual-in_err-values.ensures.1 in
     passed_on (λ e. IsRefusalAt (limited_tree l.least l.most l.otherwise s) c.args.place c.args.reader.now e.reason) c.from_residual-in_err-values.result
@@ -35,7 +35,7 @@ returns-in_err-values-clause-refused g c =
 
 pub returns-then-list-limits-clause-refused : goal.returns-then-list-limits-clause-refused
 returns-then-list-limits-clause-refused g c =
-    let s = g.T.SerializeAs.tree c.args.left in
+    let s = g.T.HasShape.tree c.args.left in
     let l = c.args.limits in
     passed_on (λ e. IsRefusalAt (limited_tree l.least l.most l.otherwise s) c.args.place c.args.reader.now e.reason) c.err.result _ _ c.err.ensures refl
     (limited_refused s l.least l.most l.otherwise c.in_ok-list.ensures.enters
@@ -50,11 +50,11 @@ returns-clause-continues g c =
 
 pub returns-clause-read : goal.returns-clause-read
 returns-clause-read g c =
-    let f = g.T.SerializeAs.datum in
+    let f = g.T.HasShape.datum in
     let l = c.args.limits in
-    limited_kept (g.T.SerializeAs.tree c.args.left) l.least l.most l.otherwise c.in_ok-list.ensures.enters (λ v. list_datum f v.items) c.args.budget.now _ c.in_ok-values.values _ (omega arith)
+    limited_kept (g.T.HasShape.tree c.args.left) l.least l.most l.otherwise c.in_ok-list.ensures.enters (λ v. list_datum f v.items) c.args.budget.now _ c.in_ok-values.values _ (omega arith)
     (omega arith)
-    (list_kept f (λ v. list_datum f v.items) (g.T.SerializeAs.tree c.args.left) c.args.reader.now c.enter_list.new.reader _ c.args.place
+    (list_kept f (λ v. list_datum f v.items) (g.T.HasShape.tree c.args.left) c.args.reader.now c.enter_list.new.reader _ c.args.place
     c.in_ok-list.list.place c.in_ok-list.list.count c.args.budget.now c.enter_list.new.budget _ c.in_ok-values.values.items c.in_ok-values.values refl
     c.enter_list.ensures.taken c.in_ok-list.ensures.enters (λ free. c.in_ok-list.ensures.few (c.is_free.ensures c.args.left ∙ free))
     c.in_ok-values.ensures.read)

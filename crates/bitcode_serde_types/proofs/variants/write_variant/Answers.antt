@@ -23,5 +23,5 @@ returns g c =
     let b = begun c.args.writer.now c.put.new.self c.below.new.self c.args.place c.in_ok-inside.inside
     (use_at (place_in c.args.writer.now c.args.place) index_kind (natural c.args.index)) (variant c.args.index)
     c.in_ok-put.ensures.below c.in_ok-put.ensures.written c.in_ok-inside.ensures.place c.in_ok-inside.ensures.grows c.in_ok-inside.ensures.written in
-    variant_outcome c.args.writer.now c.below.new.self c.write.new.writer trees (g.T.SerializeAs.tree c.args.left) c.args.index
-    c.args.place c.in_ok-inside.inside (g.T.SerializeAs.datum c.args.payload.now) _ c.write.result is small b.0 b.1 c.write.ensures
+    variant_outcome c.args.writer.now c.below.new.self c.write.new.writer trees (g.T.HasShape.tree c.args.left) c.args.index
+    c.args.place c.in_ok-inside.inside (g.T.HasShape.datum c.args.payload.now) _ c.write.result is small b.0 b.1 c.write.ensures

@@ -1,5 +1,5 @@
 -- The text fits.
-use Rattle.std.proofs.Common.{◌≤◌, [], length, subst}
+use Rattle.std.proofs.Common.{[], length, subst}
 use Rattle.std.proofs.lemmas.Bool.{le-leb}
 use Rattle.bitcode_shapes.specs.Datum.{text}
 use Rattle.bitcode_untyped.specs.ShapeTree.{text_tree}

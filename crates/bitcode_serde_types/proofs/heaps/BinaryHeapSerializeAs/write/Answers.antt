@@ -6,5 +6,5 @@ use Rattle.bitcode_serde_types.proofs.heaps.BinaryHeapSerializeAs.write.Goals as
 
 pub returns : goal.returns
 returns g c =
-    heap_written (g.T.SerializeAs.tree c.args.left) g.T.SerializeAs.datum c.args.writer.now c.args.place _ (heap_items c.args.self.now) c.write_lent.result
+    heap_written (g.T.HasShape.tree c.args.left) g.T.HasShape.datum c.args.writer.now c.args.place _ (heap_items c.args.self.now) c.write_lent.result
     c.write_lent.new.writer (c.iter.ensures.rest ∙ c.as_slice.ensures.value) c.write_lent.ensures

@@ -13,14 +13,14 @@ use Rattle.bitcode_serde_types.proofs.lists.LinkedListDeserializeAs.read.Goals a
 
 pub returns-in_err-values-clause-refused : goal.returns-in_err-values-clause-refused
 returns-in_err-values-clause-refused g c =
-    let s = g.T.SerializeAs.tree c.args.left in
+    let s = g.T.HasShape.tree c.args.left in
     let y = err_from_is_err_and c.from_residual.result c.from_residual.ensures.1 in
     passed_on (λ e. IsRefusalAt (seq_tree s) c.args.place c.args.reader.now e.reason) c.from_residual.result c.in_err-values.field-0.0 y.0 y.1 y.2
     c.in_err-values.ensures.refused
 
 pub returns-clause-read : goal.returns-clause-read
 returns-clause-read g c =
-    let f = g.T.SerializeAs.datum in
+    let f = g.T.HasShape.datum in
     let values = c.in_ok-values.values in
     let ran = c.in_ok-from_iter.ensures.ran in
     let all : ran.1 ≡ values.items =

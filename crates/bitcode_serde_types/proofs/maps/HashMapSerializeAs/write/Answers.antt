@@ -9,8 +9,8 @@ use Rattle.bitcode_serde_types.proofs.maps.HashMapSerializeAs.write.Goals as goa
 
 pub returns-in_err-places : goal.returns-in_err-places
 returns-in_err-places g c =
-    let k = g.K.SerializeAs.tree c.args.left in
-    let v = g.V.SerializeAs.tree c.args.left in
+    let k = g.K.HasShape.tree c.args.left in
+    let v = g.V.HasShape.tree c.args.left in
     let y = err_from_is_err_and c.from_residual.result c.from_residual.ensures.1 in
     refused_outcome c.args.writer.now (map_tree k v) c.args.place _ _ c.from_residual.result c.begin_map.new.writer c.in_err-places.field-0.0 y.0 y.1 y.2
     (c.in_err-places.ensures.refused k v _)
@@ -19,7 +19,7 @@ pub loop-key-init : goal.loop-key-init
 loop-key-init g c =
     let start : c.into_iter-key-iterator.result ≡ c.args.self.now.entries = search rules in
     let count : c.len.result ≡ length c.args.self.now.entries = search rules in
-    none_written g.K.SerializeAs.datum g.V.SerializeAs.datum (g.K.SerializeAs.tree c.args.left) (g.V.SerializeAs.tree c.args.left) c.args.self.now.entries
+    none_written g.K.HasShape.datum g.V.HasShape.datum (g.K.HasShape.tree c.args.left) (g.V.HasShape.tree c.args.left) c.args.self.now.entries
     c.args.writer.now c.begin_map.new.writer c.args.place c.in_ok-places.places.keys c.in_ok-places.places.values c.into_iter-key-iterator.result
     start
     (subst (λ n. BeginsMap c.args.writer.now c.begin_map.new.writer c.args.place n c.in_ok-places.places.keys c.in_ok-places.places.values) count
@@ -27,14 +27,14 @@ loop-key-init g c =
 
 pub write-requires : goal.write-requires
 write-requires g c =
-    let h = keys_place g.K.SerializeAs.datum g.V.SerializeAs.datum (g.K.SerializeAs.tree c.args.left) (g.V.SerializeAs.tree c.args.left) c.args.self.now.entries
+    let h = keys_place g.K.HasShape.datum g.V.HasShape.datum (g.K.HasShape.tree c.args.left) (g.V.HasShape.tree c.args.left) c.args.self.now.entries
     c.args.writer.now c.begin_map.new.writer c.args.place c.in_ok-places.places.keys c.in_ok-places.places.values c.loop-key.key-iterator c.loop-key.writer
     c.loop-key.invariant in
     search (rules, h)
 
 pub write-requires-in-loop-key : goal.write-requires-in-loop-key
 write-requires-in-loop-key g c =
-    let h = values_place g.K.SerializeAs.datum g.V.SerializeAs.datum (g.K.SerializeAs.tree c.args.left) (g.V.SerializeAs.tree c.args.left) c.args.self.now.entries
+    let h = values_place g.K.HasShape.datum g.V.HasShape.datum (g.K.HasShape.tree c.args.left) (g.V.HasShape.tree c.args.left) c.args.self.now.entries
     c.args.writer.now c.begin_map.new.writer c.args.place c.in_ok-places.places.keys c.in_ok-places.places.values c.loop-key.key-iterator c.loop-key.writer
     c.loop-key.invariant in
     let m = c.in_ok-write.ensures.written.grows.size in
@@ -43,28 +43,28 @@ write-requires-in-loop-key g c =
 
 pub returns-in_err-write : goal.returns-in_err-write
 returns-in_err-write g c =
-    let k = g.K.SerializeAs.tree c.args.left in
-    let v = g.V.SerializeAs.tree c.args.left in
+    let k = g.K.HasShape.tree c.args.left in
+    let v = g.V.HasShape.tree c.args.left in
     let y = err_from_is_err_and c.from_residual-in_err-write.result c.from_residual-in_err-write.ensures.1 in
     refused_outcome c.args.writer.now (map_tree k v) c.args.place _ _ c.from_residual-in_err-write.result c.write.new.writer c.in_err-write.field-0.0 y.0 y.1 y.2
-    (key_not_written g.K.SerializeAs.datum g.V.SerializeAs.datum k v c.args.self.now.entries c.args.writer.now c.begin_map.new.writer c.args.place
+    (key_not_written g.K.HasShape.datum g.V.HasShape.datum k v c.args.self.now.entries c.args.writer.now c.begin_map.new.writer c.args.place
     c.in_ok-places.places.keys c.in_ok-places.places.values c.loop-key.key-iterator c.loop-key.writer c.loop-key.invariant c.in-Some.key.now c.in-Some.value.now
     c.next.new.self c.in-Some.ensures.steps _ c.in_err-write.ensures.refused)
 
 pub returns-in_err-write-2 : goal.returns-in_err-write-2
 returns-in_err-write-2 g c =
-    let k = g.K.SerializeAs.tree c.args.left in
-    let v = g.V.SerializeAs.tree c.args.left in
+    let k = g.K.HasShape.tree c.args.left in
+    let v = g.V.HasShape.tree c.args.left in
     let y = err_from_is_err_and c.from_residual-in_err-write-2.result c.from_residual-in_err-write-2.ensures.1 in
     refused_outcome c.args.writer.now (map_tree k v) c.args.place _ _ c.from_residual-in_err-write-2.result c.write-in-loop-key.new.writer
     c.in_err-write-2.field-0.0 y.0 y.1 y.2
-    (value_not_written g.K.SerializeAs.datum g.V.SerializeAs.datum k v c.args.self.now.entries c.args.writer.now c.begin_map.new.writer c.args.place
+    (value_not_written g.K.HasShape.datum g.V.HasShape.datum k v c.args.self.now.entries c.args.writer.now c.begin_map.new.writer c.args.place
     c.in_ok-places.places.keys c.in_ok-places.places.values c.loop-key.key-iterator c.loop-key.writer c.loop-key.invariant c.in-Some.key.now c.in-Some.value.now
     c.next.new.self c.in-Some.ensures.steps c.write.new.writer _ c.in_ok-write.ensures.written c.in_err-write-2.ensures.refused)
 
 pub loop-key-preserved : goal.loop-key-preserved
 loop-key-preserved g c =
-    pair_written g.K.SerializeAs.datum g.V.SerializeAs.datum (g.K.SerializeAs.tree c.args.left) (g.V.SerializeAs.tree c.args.left) c.args.self.now.entries
+    pair_written g.K.HasShape.datum g.V.HasShape.datum (g.K.HasShape.tree c.args.left) (g.V.HasShape.tree c.args.left) c.args.self.now.entries
     c.args.writer.now c.begin_map.new.writer c.args.place c.in_ok-places.places.keys c.in_ok-places.places.values c.loop-key.key-iterator c.loop-key.writer
     c.loop-key.invariant c.in-Some.key.now c.in-Some.value.now c.next.new.self c.in-Some.ensures.steps c.write.new.writer c.write-in-loop-key.new.writer
     c.in_ok-write.ensures.written c.in_ok-write.ensures.of_tree c.in_ok-write.ensures.whole c.in_ok-write-2.ensures.written c.in_ok-write-2.ensures.of_tree
@@ -72,6 +72,6 @@ loop-key-preserved g c =
 
 pub returns : goal.returns
 returns g c =
-    all_written g.K.SerializeAs.datum g.V.SerializeAs.datum (g.K.SerializeAs.tree c.args.left) (g.V.SerializeAs.tree c.args.left) c.args.self.now.entries
+    all_written g.K.HasShape.datum g.V.HasShape.datum (g.K.HasShape.tree c.args.left) (g.V.HasShape.tree c.args.left) c.args.self.now.entries
     c.args.writer.now c.begin_map.new.writer c.args.place c.in_ok-places.places.keys c.in_ok-places.places.values c.loop-key.key-iterator c.loop-key.writer
     c.loop-key.invariant tt c.in-None.ensures.steps.0

@@ -3,5 +3,5 @@ use Rattle.bitcode_serde_types.proofs.maps.HashMapSerializeAs.write.Given as goa
 
 abbrev pub invariant-loop-key : goal.invariant-loop-key
 invariant-loop-key g l =
-    PairsWritten g.K.SerializeAs.datum g.V.SerializeAs.datum (g.K.SerializeAs.tree l.left) (g.V.SerializeAs.tree l.left) l.fn.self.entries l.fn.writer
+    PairsWritten g.K.HasShape.datum g.V.HasShape.datum (g.K.HasShape.tree l.left) (g.V.HasShape.tree l.left) l.fn.self.entries l.fn.writer
     l.initial.writer l.fn.place l.places.keys l.places.values l.key-iterator l.writer

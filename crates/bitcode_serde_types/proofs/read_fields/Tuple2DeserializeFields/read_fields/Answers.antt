@@ -1,5 +1,5 @@
 -- A field, and then those behind it.
-use Rattle.std.proofs.Common.{rules, ◌+◌}
+use Rattle.std.proofs.Common.{rules}
 use Rattle.std.proofs.lemmas.Result.{err_from_is_err_and}
 use Rattle.bitcode_untyped.specs.ShapeTree.{tree_and}
 use Rattle.bitcode_serde.proofs.ColumnLemmas.{passed_on}
@@ -10,8 +10,8 @@ use Rattle.bitcode_serde_types.proofs.read_fields.Tuple2DeserializeFields.read_f
 
 pub returns-in_err-first-clause-refused : goal.returns-in_err-first-clause-refused
 returns-in_err-first-clause-refused g c =
-    let s = g.A.SerializeAs.tree c.args.left in
-    let ss = g.R.DeserializeFields.trees c.args.left in
+    let s = g.A.HasShape.tree c.args.left in
+    let ss = g.R.HasShapes.trees c.args.left in
     let y = err_from_is_err_and c.from_residual.result c.from_residual.ensures.1 in
     passed_on (λ e. IsFieldsRefusalAt (tree_and s ss) c.args.place c.args.i c.args.fields c.args.reader.now e.reason) c.from_residual.result
     c.in_err-first.field-0.0 y.0 y.1 y.2
@@ -25,12 +25,12 @@ read_fields-requires g c κs =
 
 pub returns-in_err-rest-clause-refused : goal.returns-in_err-rest-clause-refused
 returns-in_err-rest-clause-refused g c =
-    let s = g.A.SerializeAs.tree c.args.left in
-    let ss = g.R.DeserializeFields.trees c.args.left in
+    let s = g.A.HasShape.tree c.args.left in
+    let ss = g.R.HasShapes.trees c.args.left in
     let y = err_from_is_err_and c.from_residual-in_err-rest.result c.from_residual-in_err-rest.ensures.1 in
     passed_on (λ e. IsFieldsRefusalAt (tree_and s ss) c.args.place c.args.i c.args.fields c.args.reader.now e.reason)
     c.from_residual-in_err-rest.result c.in_err-rest.field-0.0 y.0 y.1 y.2
-    (rest_refused s ss c.args.place c.args.i c.args.fields c.args.reader.now g.A.SerializeAs.datum c.in_ok-first.first c.args.budget.now c.read_field.new.budget
+    (rest_refused s ss c.args.place c.args.i c.args.fields c.args.reader.now g.A.HasShape.datum c.in_ok-first.first c.args.budget.now c.read_field.new.budget
     c.read_field.new.reader c.in_ok-first.ensures.continues c.in_ok-first.ensures.read _ c.in_err-rest.ensures.refused)
 
 pub returns-clause-continues : goal.returns-clause-continues
@@ -39,8 +39,8 @@ returns-clause-continues g c =
 
 pub returns-clause-read : goal.returns-clause-read
 returns-clause-read g c =
-    let s = g.A.SerializeAs.tree c.args.left in
-    let ss = g.R.DeserializeFields.trees c.args.left in
-    field_and_rest s ss c.args.place c.args.i c.args.fields c.args.reader.now g.A.SerializeAs.datum c.in_ok-first.first c.args.budget.now c.read_field.new.budget
-    c.read_field.new.reader c.in_ok-first.ensures.continues c.in_ok-first.ensures.read g.R.DeserializeFields.content c.in_ok-rest.rest c.read_fields.new.reader
+    let s = g.A.HasShape.tree c.args.left in
+    let ss = g.R.HasShapes.trees c.args.left in
+    field_and_rest s ss c.args.place c.args.i c.args.fields c.args.reader.now g.A.HasShape.datum c.in_ok-first.first c.args.budget.now c.read_field.new.budget
+    c.read_field.new.reader c.in_ok-first.ensures.continues c.in_ok-first.ensures.read g.R.HasShapes.content c.in_ok-rest.rest c.read_fields.new.reader
     c.read_fields.new.budget c.in_ok-rest.ensures.read

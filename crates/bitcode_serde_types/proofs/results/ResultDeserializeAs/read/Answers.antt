@@ -11,15 +11,15 @@ use Rattle.bitcode_serde_types.proofs.results.ResultDeserializeAs.read.Goals as 
 
 pub returns-in_err-found-clause-refused : goal.returns-in_err-found-clause-refused
 returns-in_err-found-clause-refused g c =
-    let ss = tree_and (g.T.SerializeAs.tree c.args.left) (tree_and (g.E.SerializeAs.tree c.args.left) no_trees) in
+    let ss = tree_and (g.T.HasShape.tree c.args.left) (tree_and (g.E.HasShape.tree c.args.left) no_trees) in
     let y = err_from_is_err_and c.from_residual.result c.from_residual.ensures.1 in
     passed_on (λ e. IsRefusalAt (choice_tree ss) c.args.place c.args.reader.now e.reason) c.from_residual.result c.in_err-found.field-0.0 y.0 y.1 y.2
     (c.in_err-found.ensures.refused ss refl)
 
 pub returns-in_err-value-clause-refused : goal.returns-in_err-value-clause-refused
 returns-in_err-value-clause-refused g c =
-    let s = g.T.SerializeAs.tree c.args.left in
-    let t = g.E.SerializeAs.tree c.args.left in
+    let s = g.T.HasShape.tree c.args.left in
+    let t = g.E.HasShape.tree c.args.left in
     let ss = tree_and s (tree_and t no_trees) in
     let found = c.in_ok-found.found in
     let this : found.index ≡ 0 = omega arith in
@@ -34,19 +34,19 @@ returns-then-found-eq0-clause-continues g c =
 
 pub returns-then-found-eq0-clause-read : goal.returns-then-found-eq0-clause-read
 returns-then-found-eq0-clause-read g c =
-    let s = g.T.SerializeAs.tree c.args.left in
-    let t = g.E.SerializeAs.tree c.args.left in
+    let s = g.T.HasShape.tree c.args.left in
+    let t = g.E.HasShape.tree c.args.left in
     let ss = tree_and s (tree_and t no_trees) in
     let found = c.in_ok-found.found in
     let this : found.index ≡ 0 = omega arith in
-    choice_kept g.T.SerializeAs.datum (result_datum g.T.SerializeAs.datum g.E.SerializeAs.datum) ss found.index 0 s c.args.reader.now
+    choice_kept g.T.HasShape.datum (result_datum g.T.HasShape.datum g.E.HasShape.datum) ss found.index 0 s c.args.reader.now
     c.enter_variant.new.reader c.args.place found.place c.in_ok-found.ensures.enters this refl _ c.args.budget.now c.enter_variant.new.budget _
     c.in_ok-value.value (Ok c.in_ok-value.value) refl c.enter_variant.ensures.taken c.in_ok-value.ensures.read
 
 pub returns-in_err-error-clause-refused : goal.returns-in_err-error-clause-refused
 returns-in_err-error-clause-refused g c =
-    let s = g.T.SerializeAs.tree c.args.left in
-    let t = g.E.SerializeAs.tree c.args.left in
+    let s = g.T.HasShape.tree c.args.left in
+    let t = g.E.HasShape.tree c.args.left in
     let ss = tree_and s (tree_and t no_trees) in
     let found = c.in_ok-found.found in
     let known = c.in_ok-found.ensures.known in
@@ -62,12 +62,12 @@ returns-clause-continues g c =
 
 pub returns-clause-read : goal.returns-clause-read
 returns-clause-read g c =
-    let s = g.T.SerializeAs.tree c.args.left in
-    let t = g.E.SerializeAs.tree c.args.left in
+    let s = g.T.HasShape.tree c.args.left in
+    let t = g.E.HasShape.tree c.args.left in
     let ss = tree_and s (tree_and t no_trees) in
     let found = c.in_ok-found.found in
     let known = c.in_ok-found.ensures.known in
     let this : found.index ≡ 1 = omega (arith, known) in
-    choice_kept g.E.SerializeAs.datum (result_datum g.T.SerializeAs.datum g.E.SerializeAs.datum) ss found.index 1 t c.args.reader.now
+    choice_kept g.E.HasShape.datum (result_datum g.T.HasShape.datum g.E.HasShape.datum) ss found.index 1 t c.args.reader.now
     c.enter_variant.new.reader c.args.place found.place c.in_ok-found.ensures.enters this refl _ c.args.budget.now c.enter_variant.new.budget _
     c.in_ok-error.error (Err c.in_ok-error.error) refl c.enter_variant.ensures.taken c.in_ok-error.ensures.read

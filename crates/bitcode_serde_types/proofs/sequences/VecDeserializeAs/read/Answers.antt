@@ -12,14 +12,14 @@ use Rattle.bitcode_serde_types.proofs.sequences.VecDeserializeAs.read.Goals as g
 
 pub returns-in_err-list-clause-refused : goal.returns-in_err-list-clause-refused
 returns-in_err-list-clause-refused g c =
-    let s = g.T.SerializeAs.tree c.args.left in
+    let s = g.T.HasShape.tree c.args.left in
     let y = err_from_is_err_and c.from_residual.result c.from_residual.ensures.1 in
     passed_on (λ e. IsRefusalAt (seq_tree s) c.args.place c.args.reader.now e.reason) c.from_residual.result c.in_err-list.field-0.0 y.0 y.1 y.2
     (c.in_err-list.ensures.refused s (c.is_free.ensures c.args.left))
 
 pub returns-in_err-values-clause-refused : goal.returns-in_err-values-clause-refused
 returns-in_err-values-clause-refused g c =
-    let s = g.T.SerializeAs.tree c.args.left in
+    let s = g.T.HasShape.tree c.args.left in
     let y = err_from_is_err_and c.from_residual-in_err-values.result c.from_residual-in_err-values.ensures.1 in
     passed_on (λ e. IsRefusalAt (seq_tree s) c.args.place c.args.reader.now e.reason) c.from_residual-in_err-values.result c.in_err-values.field-0.0 y.0 y.1 y.2
     (seq_refused s c.args.reader.now c.enter_list.new.reader c.args.place c.in_ok-list.list.place c.in_ok-list.list.count _ c.in_ok-list.ensures.enters
@@ -31,7 +31,7 @@ returns-clause-continues g c =
 
 pub returns-clause-read : goal.returns-clause-read
 returns-clause-read g c =
-    list_kept g.T.SerializeAs.datum (λ v. list (data_of (map g.T.SerializeAs.datum v.items))) (g.T.SerializeAs.tree c.args.left) c.args.reader.now
+    list_kept g.T.HasShape.datum (λ v. list (data_of (map g.T.HasShape.datum v.items))) (g.T.HasShape.tree c.args.left) c.args.reader.now
     c.enter_list.new.reader _ c.args.place c.in_ok-list.list.place c.in_ok-list.list.count c.args.budget.now c.enter_list.new.budget _
     c.in_ok-values.values.items c.in_ok-values.values refl c.enter_list.ensures.taken c.in_ok-list.ensures.enters
     (λ free. c.in_ok-list.ensures.few (c.is_free.ensures c.args.left ∙ free)) c.in_ok-values.ensures.read

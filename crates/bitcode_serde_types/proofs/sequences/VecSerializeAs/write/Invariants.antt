@@ -9,6 +9,6 @@ use Rattle.bitcode_serde_types.proofs.sequences.VecSerializeAs.write.Given as go
 abbrev pub invariant-loop-value : goal.invariant-loop-value
 invariant-loop-value g l =
     (l.element ≤ length l.initial.writer.places.below.items)
-    × EachWritten (λ v. walk (g.T.SerializeAs.tree l.left) (place_in l.initial.writer l.element) (g.T.SerializeAs.datum v))
-    (λ v. IsOf (g.T.SerializeAs.tree l.left) (g.T.SerializeAs.datum v)) (λ v. deep_faults (g.T.SerializeAs.tree l.left) (g.T.SerializeAs.datum v)) l.values l.initial.writer
+    × EachWritten (λ v. walk (g.T.HasShape.tree l.left) (place_in l.initial.writer l.element) (g.T.HasShape.datum v))
+    (λ v. IsOf (g.T.HasShape.tree l.left) (g.T.HasShape.datum v)) (λ v. deep_faults (g.T.HasShape.tree l.left) (g.T.HasShape.datum v)) l.values l.initial.writer
     l.value-index l.writer

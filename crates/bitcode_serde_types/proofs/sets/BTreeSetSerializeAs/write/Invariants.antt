@@ -7,5 +7,5 @@ use Rattle.bitcode_serde_types.proofs.sets.BTreeSetSerializeAs.write.Given as go
 
 abbrev pub invariant-loop-key : goal.invariant-loop-key
 invariant-loop-key g l =
-    PairsWritten g.K.SerializeAs.datum (λ u. unit) (g.K.SerializeAs.tree l.left) unit_tree (map with_unit l.fn.self.keys) l.fn.writer l.initial.writer l.fn.place
+    PairsWritten g.K.HasShape.datum (λ u. unit) (g.K.HasShape.tree l.left) unit_tree (map with_unit l.fn.self.keys) l.fn.writer l.initial.writer l.fn.place
     l.places.keys l.places.values (map with_unit l.key-iterator) l.writer

@@ -11,7 +11,7 @@ use Rattle.bitcode_serde_types.proofs.sets.HashSetSerializeAs.write.Goals as goa
 
 pub returns-in_err-places : goal.returns-in_err-places
 returns-in_err-places g c =
-    let k = g.K.SerializeAs.tree c.args.left in
+    let k = g.K.HasShape.tree c.args.left in
     let y = err_from_is_err_and c.from_residual.result c.from_residual.ensures.1 in
     refused_outcome c.args.writer.now (map_tree k unit_tree) c.args.place _ _ c.from_residual.result c.begin_map.new.writer c.in_err-places.field-0.0 y.0 y.1 y.2
     (c.in_err-places.ensures.refused k unit_tree _)
@@ -20,7 +20,7 @@ pub loop-key-init : goal.loop-key-init
 loop-key-init g c =
     let start : c.into_iter-key-iterator.result ≡ c.args.self.now.keys = search rules in
     let count : c.len.result ≡ length c.args.self.now.keys = search rules in
-    none_written g.K.SerializeAs.datum (λ u. unit) (g.K.SerializeAs.tree c.args.left) unit_tree (map with_unit c.args.self.now.keys)
+    none_written g.K.HasShape.datum (λ u. unit) (g.K.HasShape.tree c.args.left) unit_tree (map with_unit c.args.self.now.keys)
     c.args.writer.now c.begin_map.new.writer c.args.place c.in_ok-places.places.keys c.in_ok-places.places.values
     (map with_unit c.into_iter-key-iterator.result) (ap (map with_unit) start)
     (subst (λ n. BeginsMap c.args.writer.now c.begin_map.new.writer c.args.place n c.in_ok-places.places.keys c.in_ok-places.places.values)
@@ -28,30 +28,30 @@ loop-key-init g c =
 
 pub write-requires : goal.write-requires
 write-requires g c =
-    let h = keys_place g.K.SerializeAs.datum (λ u. unit) (g.K.SerializeAs.tree c.args.left) unit_tree (map with_unit c.args.self.now.keys)
+    let h = keys_place g.K.HasShape.datum (λ u. unit) (g.K.HasShape.tree c.args.left) unit_tree (map with_unit c.args.self.now.keys)
     c.args.writer.now c.begin_map.new.writer c.args.place c.in_ok-places.places.keys c.in_ok-places.places.values (map with_unit c.loop-key.key-iterator) c.loop-key.writer c.loop-key.invariant in
     search (rules, h)
 
 pub returns-in_err-write : goal.returns-in_err-write
 returns-in_err-write g c =
-    let k = g.K.SerializeAs.tree c.args.left in
+    let k = g.K.HasShape.tree c.args.left in
     let y = err_from_is_err_and c.from_residual-in_err-write.result c.from_residual-in_err-write.ensures.1 in
     refused_outcome c.args.writer.now (map_tree k unit_tree) c.args.place _ _ c.from_residual-in_err-write.result c.write.new.writer c.in_err-write.field-0.0
     y.0 y.1 y.2
-    (key_not_written g.K.SerializeAs.datum (λ u. unit) (g.K.SerializeAs.tree c.args.left) unit_tree (map with_unit c.args.self.now.keys)
+    (key_not_written g.K.HasShape.datum (λ u. unit) (g.K.HasShape.tree c.args.left) unit_tree (map with_unit c.args.self.now.keys)
     c.args.writer.now c.begin_map.new.writer c.args.place c.in_ok-places.places.keys c.in_ok-places.places.values (map with_unit c.loop-key.key-iterator) c.loop-key.writer c.loop-key.invariant
     c.in-Some.key.now tt (map with_unit c.next.new.self) (ap (map with_unit) c.in-Some.ensures.steps) _ c.in_err-write.ensures.refused)
 
 pub loop-key-preserved : goal.loop-key-preserved
 loop-key-preserved g c =
     let w = c.write.new.writer in
-    pair_written g.K.SerializeAs.datum (λ u. unit) (g.K.SerializeAs.tree c.args.left) unit_tree (map with_unit c.args.self.now.keys)
+    pair_written g.K.HasShape.datum (λ u. unit) (g.K.HasShape.tree c.args.left) unit_tree (map with_unit c.args.self.now.keys)
     c.args.writer.now c.begin_map.new.writer c.args.place c.in_ok-places.places.keys c.in_ok-places.places.values (map with_unit c.loop-key.key-iterator) c.loop-key.writer c.loop-key.invariant
     c.in-Some.key.now tt (map with_unit c.next.new.self) (ap (map with_unit) c.in-Some.ensures.steps) w w c.in_ok-write.ensures.written
     c.in_ok-write.ensures.of_tree c.in_ok-write.ensures.whole (writes_none w w (grows_same w w refl) refl) refl refl
 
 pub returns : goal.returns
 returns g c =
-    all_written g.K.SerializeAs.datum (λ u. unit) (g.K.SerializeAs.tree c.args.left) unit_tree (map with_unit c.args.self.now.keys)
+    all_written g.K.HasShape.datum (λ u. unit) (g.K.HasShape.tree c.args.left) unit_tree (map with_unit c.args.self.now.keys)
     c.args.writer.now c.begin_map.new.writer c.args.place c.in_ok-places.places.keys c.in_ok-places.places.values (map with_unit c.loop-key.key-iterator) c.loop-key.writer c.loop-key.invariant
     tt (ap (map with_unit) c.in-None.ensures.steps.0)
