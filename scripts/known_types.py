@@ -98,6 +98,12 @@ MOST_FIELDS = 16
 # left, so that a type which holds it in a list or an option can have a struct in between too.
 MOST_TYPES, MOST_LEFT = 32, 24
 
+
+def is_number(type):
+    """Whether the type is one of numbers, which also `bool` and `char` count as here."""
+    return type.kind == "path" and type.name in (*INTEGERS, "f32", "f64", "bool", "char")
+
+
 def of_text(type):
     """The type as Rattle writes it."""
     if type.kind == "reference":

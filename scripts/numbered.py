@@ -4,7 +4,7 @@ from string import Template
 
 from closed import inside_of, is_pair, with_arguments
 from declarations import fields_of
-from known_types import MOST_TYPES, of_text, types_in
+from known_types import MOST_TYPES, is_number, of_text, types_in
 from structs import arguments, bounds, in_a_head, paths, quoted
 from variants import LETTERS, arms, declaration, held_type, names_of, one_to_one, payload, value
 
@@ -290,9 +290,21 @@ class Numbered:
         others = "\n            _ => unreachable!()," if len(self.groups) > 1 else ""
         short, short_names = in_a_head(self.enum, [self.types[n] for n in numbers], "Payload", numbers[0])
 
+        takes_one = any(len(variant.fields) == 1 and not is_number(variant.fields[0].type) for _, variant in rows)
+
+        def is_taken_apart(types):
+            """Whether a `let` takes the fields of a variant apart: the toolchain does not prove an arm that takes out
+            an array beside other fields, or several fields beside an arm that takes one whole."""
+            if any(type.kind == "array" for type in types):
+                return len(types) > 1
+            return takes_one and len(types) > 2 and not is_number(types[0])
+
         def made(ordinal, variant):
-            found = f"OneOf{size}::{ordinal.capitalize()}({payload(names_of(variant), '()')})"
-            return f"\n            {found} => {value(self.enum, variant)},"
+            fields, made_of = payload(names_of(variant), "()"), value(self.enum, variant)
+            if is_taken_apart([field.type for field in variant.fields]):
+                taken = f"{{\n                let {fields} = fields;\n                {made_of}\n            }}"
+                return f"\n            OneOf{size}::{ordinal.capitalize()}(fields) => {taken}"
+            return f"\n            OneOf{size}::{ordinal.capitalize()}({fields}) => {made_of},"
 
         return {
             "life": self.life,
