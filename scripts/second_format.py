@@ -822,7 +822,7 @@ class Group(Fields):
             for shaped in self.types
             if not shaped.is_struct
             for variant, parts in shaped.variants
-            if len(parts) > 1
+            if len(parts) > 1 and any(part.kind != "other" for part in parts)
         ]
         self.name_fields()
 

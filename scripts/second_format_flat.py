@@ -19,7 +19,7 @@ from second_format import (
     tree_of,
     trees_and,
 )
-from second_format_text import built, nested, tuple_written
+from second_format_text import built, nested, taken_apart, tuple_written
 from structs import quoted
 
 
@@ -119,8 +119,9 @@ def read(flat):
         if types:
             held = rust(types[0]) if len(types) == 1 else f"({', '.join(map(rust, types))})"
             arm = f"                let held: {held} = read_at(alloc, reader, budget, left, found.place)?;\n"
-        names = ["held"] if len(types) == 1 else [f"held.{n}" for n in range(len(types))]
-        arm += f"                Ok({built(f'{flat.name}::{variant.name}', variant.fields, variant.kind, names)})\n"
+        taken, names = ("", ["held"]) if len(types) == 1 else taken_apart(types, " " * 16)
+        made = built(f"{flat.name}::{variant.name}", variant.fields, variant.kind, names)
+        arm += f"{taken}                Ok({made})\n"
         arms += f"            {index if index < len(flat.variants) - 1 else '_'} => {{\n{arm}            }}\n"
     count = len(flat.variants)
     return (

@@ -522,7 +522,10 @@ pub {goal} : goal.{goal}
     (variant_refused {entered}
     {left_through(f'{name}-{where}')} {bad}.ensures.refused)
 """
-    value = f"({shaped.word}'.{variant.name} {ok}.held)" if len(parts) == 1 and has_signed_field(parts) else "_"
+    is_plain = all(part.kind == "other" for part in parts)
+    value = "_"
+    if is_plain and has_signed_field(parts):
+        value = f"({shaped.word}'.{variant.name} {' '.join(held if kind == 'several' else [f'{ok}.held'])})"
     kept = (
         f"variant_kept {entered}\n"
         f"    c.args.budget.now c.enter_variant.ensures.taken {ok}.ensures.read {w}_datum {value} ({equation})"

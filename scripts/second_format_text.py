@@ -409,9 +409,22 @@ def arm(group, shaped, variant, parts):
         else:
             text = held_read(parts[0], "below", "found.place", "held", "value", indent)
         return text + f"{indent}Ok({built(owner, variant.fields, variant.kind, ['held'])})\n"
-    text = f"{indent}let held = read_{shaped.fields_word(variant)}(alloc, reader, budget, below, found.place)?;\n"
-    names = [f"held.{place}" for place in range(len(parts))]
-    return text + f"{indent}Ok({built(owner, variant.fields, variant.kind, names)})\n"
+    if all(part.kind == "other" for part in parts):
+        held = f"({', '.join(part.rust for part in parts)})"
+        text = f"{indent}let held: {held} = read_at(alloc, reader, budget, below, found.place)?;\n"
+    else:
+        text = f"{indent}let held = read_{shaped.fields_word(variant)}(alloc, reader, budget, below, found.place)?;\n"
+    taken, names = taken_apart([part.type for part in parts], indent)
+    return text + taken + f"{indent}Ok({built(owner, variant.fields, variant.kind, names)})\n"
+
+
+def taken_apart(types, indent):
+    """What takes the fields of `held` apart, and their names. The toolchain does not prove that an array is moved out
+    of a tuple straight into a value."""
+    if not any(type_.kind == "array" for type_ in types):
+        return "", [f"held.{place}" for place in range(len(types))]
+    names = [f"field{place}" for place in range(len(types))]
+    return f"{indent}let ({', '.join(names)}) = held;\n", names
 
 
 def nested(names):

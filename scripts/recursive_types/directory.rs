@@ -9,4 +9,5 @@ pub enum Entry {
     File(u64),
     Folder(Directory),
     Nothing,
+    Link { target: String, offset: i64 },
 }

@@ -25,6 +25,7 @@ pub enum Entry {
     File(u64),
     Folder(Directory),
     Nothing,
+    Link { target: String, offset: i64 },
 }
 
 impl HasShape for Directory {
@@ -79,6 +80,9 @@ impl SerializeAs for Entry {
             Entry::File(x0) => { write_variant(x0, 0, writer, below, place) }
             Entry::Folder(x0) => { write_variant(x0, 1, writer, below, place) }
             Entry::Nothing => { write_variant(&(), 2, writer, below, place) }
+            Entry::Link { target, offset } => {
+                write_variant(&(target, offset), 3, writer, below, place)
+            }
         }
     }
 }
@@ -148,7 +152,7 @@ fn read_entry(
     ensures refused { IfErr result (λ e. IsRefusalAt (entry_tree left) place reader.old e.reason) }
 {
     let below = follow(left)?;
-    let found = enter_variant(reader, budget, 3, Reason::InvalidEnumVariant, place)?;
+    let found = enter_variant(reader, budget, 4, Reason::InvalidEnumVariant, place)?;
     match found.index {
         0 => {
             let held: u64 = read_at(alloc, reader, budget, below, found.place)?;
@@ -158,9 +162,16 @@ fn read_entry(
             let held = read_directory(alloc, reader, budget, below, found.place)?;
             Ok(Entry::Folder(held))
         }
-        _ => {
+        2 => {
             budget.take(1);
             Ok(Entry::Nothing)
+        }
+        _ => {
+            let held: (String, i64) = read_at(alloc, reader, budget, below, found.place)?;
+            Ok(Entry::Link {
+                target: held.0,
+                offset: held.1,
+            })
         }
     }
 }

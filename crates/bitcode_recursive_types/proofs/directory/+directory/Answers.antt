@@ -99,8 +99,24 @@ read_entry-returns-in_ok-held-in-1-clause-read t c =
     (variant_kept (entry_trees c.in_ok-below.below) 1 c.in_ok-found.ensures.enters (omega (arith, c.in_ok-found.ensures.known))
     c.args.budget.now c.enter_variant.ensures.taken c.in_ok-held-in-1.ensures.read entry_datum _ (ap entry_datum (sym (entry'.rolls-Folder c.in_ok-held-in-1.held)) ∙ fold-roll-Entry Datum Datum entry_step directory_step (Entry-F.Folder c.in_ok-held-in-1.held)))
 
-pub read_entry-returns-in_default-clause-read : goal.read_entry-returns-in_default-clause-read
-read_entry-returns-in_default-clause-read t c =
+pub read_entry-returns-in-2-clause-read : goal.read_entry-returns-in-2-clause-read
+read_entry-returns-in-2-clause-read t c =
     rw c.in_ok-below.ensures.followed
     (unit_variant_kept (entry_trees c.in_ok-below.below) 2 c.in_ok-found.ensures.enters (omega (arith, c.in_ok-found.ensures.known)) refl c.args.budget.now c.enter_variant.ensures.taken
     c.take.ensures entry_datum _ (ap entry_datum (sym entry'.rolls-Nothing) ∙ fold-roll-Entry Datum Datum entry_step directory_step Entry-F.Nothing))
+
+pub read_entry-returns-in_err-held-in_default-clause-refused : goal.read_entry-returns-in_err-held-in_default-clause-refused
+read_entry-returns-in_err-held-in_default-clause-refused t c =
+    rw c.in_ok-below.ensures.followed
+    (variant_refused (entry_trees c.in_ok-below.below) 3 c.in_ok-found.ensures.enters (omega (arith, c.in_ok-found.ensures.known))
+    c.from_residual-in_err-held-in_default.result c.in_err-held-in_default.field-0.0 c.from_residual-in_err-held-in_default.ensures.1 c.in_err-held-in_default.ensures.refused)
+
+pub read_entry-returns-in_ok-held-in_default-clause-continues : goal.read_entry-returns-in_ok-held-in_default-clause-continues
+read_entry-returns-in_ok-held-in_default-clause-continues t c = continues_on _ _ _ c.in_ok-found.ensures.continues c.in_ok-held-in_default.ensures.continues
+
+pub read_entry-returns-in_ok-held-in_default-clause-read : goal.read_entry-returns-in_ok-held-in_default-clause-read
+read_entry-returns-in_ok-held-in_default-clause-read t c =
+    rw c.in_ok-below.ensures.followed
+    (let k = variant_kept (entry_trees c.in_ok-below.below) 3 c.in_ok-found.ensures.enters (omega (arith, c.in_ok-found.ensures.known))
+    c.args.budget.now c.enter_variant.ensures.taken c.in_ok-held-in_default.ensures.read entry_datum (entry'.Link c.in_ok-held-in_default.held.0 c.in_ok-held-in_default.held.1) (ap entry_datum (sym (entry'.rolls-Link c.in_ok-held-in_default.held.0 c.in_ok-held-in_default.held.1)) ∙ fold-roll-Entry Datum Datum entry_step directory_step (Entry-F.Link c.in_ok-held-in_default.held.0 c.in_ok-held-in_default.held.1)) in
+    search (rules, k))

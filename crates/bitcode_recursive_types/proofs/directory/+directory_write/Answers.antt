@@ -34,3 +34,8 @@ pub EntrySerializeAs::write-returns-in-Nothing : goal.EntrySerializeAs::write-re
 EntrySerializeAs::write-returns-in-Nothing t c =
     rw (c.in_ok-below.ensures.followed, c.in-Nothing.is, ap entry_datum (sym entry'.rolls-Nothing) ∙ fold-roll-Entry Datum Datum entry_step directory_step Entry-F.Nothing)
     (c.write_variant-in-Nothing.ensures (entry_trees c.in_ok-below.below) refl)
+
+pub EntrySerializeAs::write-returns-in-Link : goal.EntrySerializeAs::write-returns-in-Link
+EntrySerializeAs::write-returns-in-Link t c =
+    rw (c.in_ok-below.ensures.followed, c.in-Link.is, ap entry_datum (sym (entry'.rolls-Link c.in-Link.target c.in-Link.offset)) ∙ fold-roll-Entry Datum Datum entry_step directory_step (Entry-F.Link c.in-Link.target c.in-Link.offset))
+    (c.write_variant-in-Link.ensures (entry_trees c.in_ok-below.below) refl)
