@@ -42,6 +42,7 @@ def own_imports(group, text, with_lemmas=True):
     own = " ".join(
         f"{shaped.word}_tree {shaped.word}_trees {shaped.word}_step {shaped.word}_datum" for shaped in group.types
     )
+    own += " " + " ".join(f"{flat.word}_tree {flat.word}_trees {flat.word}_datum" for flat in group.below)
     own += " " + " ".join(f"{shaped.fields_word(variant)}_trees" for shaped, variant, _ in group.payloads)
     found = used([(f"{group.crate}.specs.{group.specs}", own)], text)
     place = f"{group.crate}.specs.declared.{group.module}"

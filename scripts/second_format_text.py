@@ -522,7 +522,7 @@ def code(group):
         head = r"^(?=#\[derive|pub[ (]|struct |enum )"
         declared += "\n" + re.sub(head, cycle, text.strip(), count=1, flags=re.M) + "\n"
     text = declared + "".join(impls(group, one) for one in group.all)
-    own = " ".join(f"{shaped.word}_tree {shaped.word}_trees {shaped.word}_datum" for shaped in group.types)
+    own = " ".join(f"{one.word}_tree {one.word}_trees {one.word}_datum" for one in [*group.types, *group.below])
     own += " " + " ".join(f"{shaped.fields_word(variant)}_trees" for shaped, variant, _ in group.payloads)
     functions = reading(group)
     text += functions
