@@ -89,6 +89,7 @@ pub use bitcode_untyped::value::Value;
 
 /// The building blocks of coders for your own types. `scripts/new_type` uses them, and few programs need them directly.
 pub mod own {
+    pub use bitcode_coder::lends::Lends;
     pub use bitcode_coder::part::Part;
     pub use bitcode_derive::closed::reserve_as;
     use bitcode_derive::derive::HasDecoder;
@@ -119,7 +120,7 @@ pub mod own {
     pub use bitcode_parts::choices::variant::encode_payload;
     use bitcode_parts::convert::ConvertFromDecoder;
     pub use bitcode_parts::lists::sequence::{
-        FromElements, Lends, Sequence, decode_each, encode_each, encode_lent,
+        FromElements, Sequence, decode_each, encode_each, encode_lent,
     };
     pub use bitcode_parts::maps::Mapping;
     pub use bitcode_shapes::bare_variants::{BareShaped, BareVariants};

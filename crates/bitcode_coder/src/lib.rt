@@ -6,6 +6,7 @@ pub mod coder;
 pub mod column_free;
 pub mod direct;
 pub mod laws;
+pub mod lends;
 pub mod length;
 pub mod one;
 pub mod part;

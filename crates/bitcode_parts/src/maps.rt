@@ -1,7 +1,7 @@
 //! Types that are written as, and made from, pairs of keys and values.
 ghost use Rattle.std.specs.Prelude.{◌≡◌, ◌<◌, ◌≤◌, ◌++◌, ◌⊎◌, List, length, map, take, All, refl, OnOk, IfOk, IfErr};
 ghost use Rattle.std.specs.Map.{keys_of, values_of};
-ghost use Rattle.std.specs.Map.Iter.{TakesFirst, deref_pair};
+ghost use Rattle.std.specs.Map.Iter.{deref_pair};
 ghost use Rattle.std.proofs.lemmas.List.Sorted.{IsPermutation-refl};
 ghost use Rattle.bitcode_shapes.specs.Datum.{Datum};
 ghost use Rattle.bitcode_shapes.specs.Shape.{map_shape};
@@ -11,15 +11,16 @@ ghost use Rattle.bitcode_coder.specs.Columns.{emptied};
 ghost use Rattle.bitcode_coder.specs.Coder.{JoinsEach, OverflowsWithEach, IsWritingRefusal};
 ghost use Rattle.bitcode_parts.specs.Elements.{MakesOfElements};
 
-use crate::lists::sequence::{FromElements, Lends, encode_lent};
+use crate::lists::sequence::{FromElements, encode_lent};
 use bitcode_coder::coder::EncodeMany;
+use bitcode_coder::lends::LendsPairs;
 use bitcode_coder::part::Part;
 use bitcode_memory::error::{Error, Reason};
 use bitcode_shapes::keys::Key;
 use bitcode_shapes::lists::told_each;
 use bitcode_shapes::shaped::Shaped;
 use std::alloc::Global;
-use std::collections::{BTreeMap, HashMap, btree_map, hash_map};
+use std::collections::{BTreeMap, HashMap};
 use std::hash::Hash;
 
 /// A type that is written as its pairs of keys and values: a map in the order of its keys or in an internal order.
@@ -131,31 +132,6 @@ impl<'a, K, V> Part<(&'a K, &'a V), V> for ValueBehind {
 
     fn part<'b>(&'b self, whole: &'b (&'a K, &'a V)) -> &'b V {
         whole.1
-    }
-}
-
-// An iterator that lends pairs of keys and values. Its contract knows the list of the remaining ones.
-trait LendsPairs<'b, K, V>: Drop {
-    ghost rest: { Self → List (K × V) };
-
-    // The next pair.
-    fn lend_pair(&mut self) -> Option<(&'b K, &'b V)>
-        ensures next { TakesFirst deref_pair (rest self.old) result (rest self.new) };
-}
-
-impl<'b, K, V> LendsPairs<'b, K, V> for btree_map::Iter<'b, K, V> {
-    ghost rest = { λ l. l };
-
-    fn lend_pair(&mut self) -> Option<(&'b K, &'b V)> {
-        self.next()
-    }
-}
-
-impl<'b, K, V> LendsPairs<'b, K, V> for hash_map::Iter<'b, K, V> {
-    ghost rest = { λ l. l };
-
-    fn lend_pair(&mut self) -> Option<(&'b K, &'b V)> {
-        self.next()
     }
 }
 
@@ -320,37 +296,5 @@ impl<K: Key + Hash + Drop, V: Shaped + Drop> FromElements for HashMap<K, V> {
             let _old = map.insert(key, value)?;
         }
         Ok(map)
-    }
-}
-
-impl<'b, K, V> Lends<'b, K> for btree_map::Keys<'b, K, V> {
-    ghost rest = { λ l. l };
-
-    fn lend(&mut self) -> Option<&'b K> {
-        self.next()
-    }
-}
-
-impl<'b, K, V> Lends<'b, V> for btree_map::Values<'b, K, V> {
-    ghost rest = { λ l. l };
-
-    fn lend(&mut self) -> Option<&'b V> {
-        self.next()
-    }
-}
-
-impl<'b, K, V> Lends<'b, K> for hash_map::Keys<'b, K, V> {
-    ghost rest = { λ l. l };
-
-    fn lend(&mut self) -> Option<&'b K> {
-        self.next()
-    }
-}
-
-impl<'b, K, V> Lends<'b, V> for hash_map::Values<'b, K, V> {
-    ghost rest = { λ l. l };
-
-    fn lend(&mut self) -> Option<&'b V> {
-        self.next()
     }
 }

@@ -5,7 +5,7 @@ ghost use Rattle.bitcode_parts.specs.Elements.{MakesOfElements};
 ghost use Rattle.std.proofs.Common.{ap};
 ghost use Rattle.bitcode_shapes.specs.Shape.{seq_shape};
 
-use crate::lists::sequence::{FromElements, Lends, Sequence, encode_lent};
+use crate::lists::sequence::{FromElements, Sequence, encode_lent};
 use crate::lists::vec::VecDecoder;
 use bitcode_coder::coder::{Decoder, EncodeMany};
 use bitcode_memory::error::{Error, Reason};
@@ -13,7 +13,7 @@ use bitcode_shapes::keys::Key;
 use bitcode_shapes::lists::told_each;
 use bitcode_shapes::shaped::Shaped;
 use std::alloc::Global;
-use std::collections::{BTreeSet, HashSet, btree_set, hash_set};
+use std::collections::{BTreeSet, HashSet};
 use std::hash::Hash;
 
 impl<T: Key> Sequence for BTreeSet<T> {
@@ -86,22 +86,6 @@ impl<T: Key + Hash + Drop> FromElements for HashSet<T> {
             let _added = set.insert(element)?;
         }
         Ok(set)
-    }
-}
-
-impl<'b, T> Lends<'b, T> for btree_set::Iter<'b, T> {
-    ghost rest = { λ l. l };
-
-    fn lend(&mut self) -> Option<&'b T> {
-        self.next()
-    }
-}
-
-impl<'b, T> Lends<'b, T> for hash_set::Iter<'b, T> {
-    ghost rest = { λ l. l };
-
-    fn lend(&mut self) -> Option<&'b T> {
-        self.next()
     }
 }
 

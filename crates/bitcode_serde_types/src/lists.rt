@@ -1,13 +1,11 @@
 //! Queues, linked lists, and slices: their elements, front to back.
 #![tactic(auto)]
 
-ghost use Rattle.std.specs.Prelude.{◌≡◌, ◌≤◌, List, [], ◌∷◌, length, IfSome, IfNone};
+ghost use Rattle.std.specs.Prelude.{◌≡◌, ◌≤◌, length};
 ghost use Rattle.std.specs.Arc.{arc_slice_items};
 ghost use Rattle.std.specs.Box.{boxed_slice_items};
 ghost use Rattle.std.specs.Rc.{rc_slice_items};
-ghost use Rattle.std.specs.Slice.Iter.{iter_rest};
 ghost use Rattle.std.specs.VecDeque.{deque_items};
-ghost use Rattle.std.specs.VecDeque.Iter.{deque_iter_rest};
 ghost use Rattle.bitcode_untyped.specs.ShapeTree.{seq_tree};
 ghost use Rattle.bitcode_serde.specs.Serializing.{Outcome};
 ghost use Rattle.bitcode_serde_types.specs.DeepFaults.{deep_faults};
@@ -17,6 +15,7 @@ use crate::deserialize_as::DeserializeAs;
 use crate::entering::read_at;
 use crate::has_shape::HasShape;
 use crate::serialize_as::SerializeAs;
+use bitcode_coder::lends::Lends;
 use bitcode_memory::error::Error;
 use bitcode_serde::budget::Budget;
 use bitcode_serde::reader::Reader;
@@ -25,44 +24,9 @@ use bitcode_serde::write_column::Entry;
 use bitcode_serde::writer::Writer;
 use std::alloc::Global;
 use std::boxed::BoxedSlice;
-use std::collections::{LinkedList, VecDeque, linked_list, vec_deque};
+use std::collections::{LinkedList, VecDeque};
 use std::rc::RcSlice;
-use std::slice;
 use std::sync::ArcSlice;
-
-/// An iterator that lends elements.
-pub(crate) trait Lends<'b, T>: Drop {
-    ghost rest: { Self → List T };
-
-    /// The next element.
-    fn lend(&mut self) -> Option<&'b T>
-        ensures next { IfSome result (λ item. rest self.old ≡ item.now ∷ rest self.new) }
-        ensures end { IfNone result (rest self.old ≡ []) };
-}
-
-impl<'b, T> Lends<'b, T> for slice::Iter<'b, T> {
-    ghost rest = { λ l. iter_rest l };
-
-    fn lend(&mut self) -> Option<&'b T> {
-        self.next()
-    }
-}
-
-impl<'b, T> Lends<'b, T> for vec_deque::Iter<'b, T> {
-    ghost rest = { λ l. deque_iter_rest l };
-
-    fn lend(&mut self) -> Option<&'b T> {
-        self.next()
-    }
-}
-
-impl<'b, T> Lends<'b, T> for linked_list::Iter<'b, T> {
-    ghost rest = { λ l. l };
-
-    fn lend(&mut self) -> Option<&'b T> {
-        self.next()
-    }
-}
 
 /// Writes a list of `count` elements that are lent.
 pub(crate) fn write_lent<'b, T: SerializeAs + 'b, L: Lends<'b, T>>(

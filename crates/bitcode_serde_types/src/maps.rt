@@ -5,7 +5,9 @@ ghost use Rattle.std.specs.Prelude.{◌≡◌, ◌≤◌, List, length, map, IfO
 ghost use Rattle.bitcode_shapes.specs.Datum.{Datum};
 ghost use Rattle.bitcode_untyped.specs.ShapeTree.{ShapeTree, map_tree};
 ghost use Rattle.bitcode_serde.specs.ReadingValues.{IsSteady, Continues};
+ghost use Rattle.bitcode_serde.specs.Serializing.{Outcome};
 ghost use Rattle.bitcode_serde.specs.Writing.{RefusesAt};
+ghost use Rattle.bitcode_serde_types.specs.DeepFaults.{deep_faults};
 ghost use Rattle.bitcode_serde_types.specs.Pairs.{BeginsMap, ReadsPairsAs, pair_datum, map_datum};
 ghost use Rattle.bitcode_serde_types.specs.Refusals.{IsRefusalAt};
 ghost use Rattle.bitcode_serde_types.specs.Restates.{AreEntriesOf};
@@ -15,6 +17,7 @@ use crate::entering::{Pairs, enter_map};
 use crate::has_shape::HasShape;
 use crate::keys::KeyAs;
 use crate::serialize_as::SerializeAs;
+use bitcode_coder::lends::LendsPairs;
 use bitcode_memory::error::{Error, Reason};
 use bitcode_serde::budget::Budget;
 use bitcode_serde::reader::Reader;
@@ -46,6 +49,30 @@ pub fn begin_map(writer: &mut Writer, count: usize, place: usize) -> Result<Pair
     })
 }
 
+// Writes a map of `count` pairs that are lent.
+fn write_pairs<'b, K: KeyAs + 'b, V: SerializeAs + 'b, L: LendsPairs<'b, K, V>>(
+    mut lent: L,
+    count: usize,
+    writer: &mut Writer,
+    left: usize,
+    place: usize,
+) -> Result<(), Error>
+    requires place { place ≤ length writer.old.places.below.items }
+    requires all { length (L.rest lent) ≡ count }
+    ensures { Outcome writer.old (map_tree (K.tree left) (V.tree left)) place
+        (map_datum K.datum V.datum (L.rest lent))
+        (deep_faults (map_tree (K.tree left) (V.tree left))
+        (map_datum K.datum V.datum (L.rest lent)))
+        result writer.new }
+{
+    let places = begin_map(writer, count, place)?;
+    while let Some((key, value)) = lent.lend_pair() {
+        key.write(writer, left, places.keys)?;
+        value.write(writer, left, places.values)?;
+    }
+    Ok(())
+}
+
 impl<K: KeyAs, V: HasShape> HasShape for BTreeMap<K, V> {
     ghost tree = { λ left. map_tree (K.tree left) (V.tree left) };
 
@@ -56,12 +83,7 @@ impl<K: KeyAs, V: HasShape> HasShape for BTreeMap<K, V> {
 
 impl<K: KeyAs, V: SerializeAs> SerializeAs for BTreeMap<K, V> {
     fn write(&self, writer: &mut Writer, left: usize, place: usize) -> Result<(), Error> {
-        let places = begin_map(writer, self.len(), place)?;
-        for (key, value) in self {
-            key.write(writer, left, places.keys)?;
-            value.write(writer, left, places.values)?;
-        }
-        Ok(())
+        write_pairs(self.iter(), self.len(), writer, left, place)
     }
 }
 
@@ -75,12 +97,7 @@ impl<K: KeyAs + Hash, V: HasShape> HasShape for HashMap<K, V> {
 
 impl<K: KeyAs + Hash, V: SerializeAs> SerializeAs for HashMap<K, V> {
     fn write(&self, writer: &mut Writer, left: usize, place: usize) -> Result<(), Error> {
-        let places = begin_map(writer, self.len(), place)?;
-        for (key, value) in self {
-            key.write(writer, left, places.keys)?;
-            value.write(writer, left, places.values)?;
-        }
-        Ok(())
+        write_pairs(self.iter(), self.len(), writer, left, place)
     }
 }
 

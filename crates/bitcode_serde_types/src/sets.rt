@@ -5,6 +5,8 @@ ghost use Rattle.std.specs.Prelude.{◌≡◌, ◌≤◌, length, map, IfOk, IfE
 ghost use Rattle.bitcode_shapes.specs.Datum.{unit};
 ghost use Rattle.bitcode_untyped.specs.ShapeTree.{map_tree, unit_tree};
 ghost use Rattle.bitcode_serde.specs.ReadingValues.{IsSteady, Continues};
+ghost use Rattle.bitcode_serde.specs.Serializing.{Outcome};
+ghost use Rattle.bitcode_serde_types.specs.DeepFaults.{deep_faults};
 ghost use Rattle.bitcode_serde_types.specs.Pairs.{ReadsPairsAs, pair_datum, set_datum, with_unit};
 ghost use Rattle.bitcode_serde_types.specs.Refusals.{IsRefusalAt};
 ghost use Rattle.bitcode_serde_types.specs.Restates.{AreEntriesOf};
@@ -15,6 +17,7 @@ use crate::has_shape::HasShape;
 use crate::keys::KeyAs;
 use crate::maps::begin_map;
 use crate::serialize_as::SerializeAs;
+use bitcode_coder::lends::Lends;
 use bitcode_memory::error::{Error, Reason};
 use bitcode_serde::budget::Budget;
 use bitcode_serde::reader::Reader;
@@ -22,6 +25,28 @@ use bitcode_serde::writer::Writer;
 use std::alloc::Global;
 use std::collections::{BTreeSet, HashSet};
 use std::hash::Hash;
+
+// Writes a set of `count` elements that are lent, each a key with a unit.
+fn write_keys<'b, K: KeyAs + 'b, L: Lends<'b, K>>(
+    mut lent: L,
+    count: usize,
+    writer: &mut Writer,
+    left: usize,
+    place: usize,
+) -> Result<(), Error>
+    requires place { place ≤ length writer.old.places.below.items }
+    requires all { length (L.rest lent) ≡ count }
+    ensures { Outcome writer.old (map_tree (K.tree left) unit_tree) place
+        (set_datum K.datum (L.rest lent))
+        (deep_faults (map_tree (K.tree left) unit_tree) (set_datum K.datum (L.rest lent))) result
+        writer.new }
+{
+    let places = begin_map(writer, count, place)?;
+    while let Some(key) = lent.lend() {
+        key.write(writer, left, places.keys)?;
+    }
+    Ok(())
+}
 
 impl<K: KeyAs> HasShape for BTreeSet<K> {
     ghost tree = { λ left. map_tree (K.tree left) unit_tree };
@@ -33,11 +58,7 @@ impl<K: KeyAs> HasShape for BTreeSet<K> {
 
 impl<K: KeyAs> SerializeAs for BTreeSet<K> {
     fn write(&self, writer: &mut Writer, left: usize, place: usize) -> Result<(), Error> {
-        let places = begin_map(writer, self.len(), place)?;
-        for key in self {
-            key.write(writer, left, places.keys)?;
-        }
-        Ok(())
+        write_keys(self.iter(), self.len(), writer, left, place)
     }
 }
 
@@ -51,11 +72,7 @@ impl<K: KeyAs + Hash> HasShape for HashSet<K> {
 
 impl<K: KeyAs + Hash> SerializeAs for HashSet<K> {
     fn write(&self, writer: &mut Writer, left: usize, place: usize) -> Result<(), Error> {
-        let places = begin_map(writer, self.len(), place)?;
-        for key in self {
-            key.write(writer, left, places.keys)?;
-        }
-        Ok(())
+        write_keys(self.iter(), self.len(), writer, left, place)
     }
 }
 

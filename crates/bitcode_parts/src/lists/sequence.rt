@@ -1,11 +1,9 @@
 //! Sequences: iterators that lend elements, encoding and decoding elements one by one, and the types that are written
 //! as, and made from, the sequence of their elements.
-ghost use Rattle.std.specs.Prelude.{◌≡◌, ◌≢◌, ◌+◌, ◌<◌, ◌≤◌, ◌++◌, List, [], ◌∷◌, None, length, map, take, All, refl};
+ghost use Rattle.std.specs.Prelude.{◌≡◌, ◌≢◌, ◌+◌, ◌<◌, ◌≤◌, ◌++◌, List, None, length, map, take, All, refl};
 ghost use Rattle.std.specs.Prelude.{IsTrue, IsFalse, IsOk};
-ghost use Rattle.std.specs.Prelude.{IfOk, OnOk, IfErr, IfSome, IfNone};
-ghost use Rattle.std.specs.Slice.Iter.{iter_rest};
+ghost use Rattle.std.specs.Prelude.{IfOk, OnOk, IfErr};
 ghost use Rattle.std.specs.VecDeque.{deque_items};
-ghost use Rattle.std.specs.VecDeque.Iter.{deque_iter_rest};
 ghost use Rattle.bitcode_memory.specs.declared.error.Reason.{Reason};
 ghost use Rattle.bitcode_shapes.specs.Datum.{Datum};
 ghost use Rattle.bitcode_shapes.specs.Shape.{seq_shape};
@@ -16,54 +14,12 @@ ghost use Rattle.bitcode_coder.specs.Coder.{IsWritingRefusal, TakesEach};
 ghost use Rattle.bitcode_parts.specs.Elements.{MakesOfElements};
 
 use bitcode_coder::coder::{Decoder, EncodeMany};
+use bitcode_coder::lends::Lends;
 use bitcode_coder::part::Behind;
 use bitcode_memory::error::{Error, Reason};
 use bitcode_shapes::shaped::Shaped;
 use std::alloc::Global;
-use std::collections::{LinkedList, VecDeque, linked_list, vec_deque};
-use std::slice;
-
-/// An iterator that lends elements. Its contract knows the list of the remaining ones.
-///
-/// ```rust
-/// let queue = vec![in alloc; 7u8, 8]?;
-/// let mut lent = queue.iter();
-/// let first: Option<&u8> = lent.lend();
-/// assert_eq!(rt; first, Some(&7));
-/// ```
-pub trait Lends<'b, T>: Drop {
-    ghost rest: { Self → List T };
-
-    /// The next element.
-    fn lend(&mut self) -> Option<&'b T>
-        ensures next { IfSome result (λ item. rest self.old ≡ item.now ∷ rest self.new) }
-        ensures end { IfNone result (rest self.old ≡ []) }
-        ensures ended { IfNone result (rest self.new ≡ []) };
-}
-
-impl<'b, T> Lends<'b, T> for slice::Iter<'b, T> {
-    ghost rest = { λ l. iter_rest l };
-
-    fn lend(&mut self) -> Option<&'b T> {
-        self.next()
-    }
-}
-
-impl<'b, T> Lends<'b, T> for vec_deque::Iter<'b, T> {
-    ghost rest = { λ l. deque_iter_rest l };
-
-    fn lend(&mut self) -> Option<&'b T> {
-        self.next()
-    }
-}
-
-impl<'b, T> Lends<'b, T> for linked_list::Iter<'b, T> {
-    ghost rest = { λ l. l };
-
-    fn lend(&mut self) -> Option<&'b T> {
-        self.next()
-    }
-}
+use std::collections::{LinkedList, VecDeque};
 
 // So many elements that are lent are gathered, and written at once.
 const MOST_LENT: usize = 32;
