@@ -377,10 +377,12 @@ def steps_of(parts):
     ]
 
 
-def with_list_inside(parts):
-    """The fields, where a list that is the only one of the group among them is read in their midst."""
+def with_list_inside(parts, flats):
+    """The fields, where a list that is the only one of the group among them is read in their midst. Beside an enum of
+    the file it has a function of its own: the checker takes the enum for another one after the loop."""
     inner = [part for part in parts if part.kind != "other"]
-    if len(inner) == 1 and inner[0].kind == "list":
+    has_enum = any(part.type.name in flats and not flats[part.type.name].is_struct for part in parts)
+    if len(inner) == 1 and inner[0].kind == "list" and not has_enum:
         inner[0].is_inside = True
     return parts
 
@@ -632,7 +634,8 @@ class Shaped:
 
     def fill(self, group):
         if self.is_struct:
-            self.parts = with_runs(with_list_inside([Part(field.type, group) for field in self.item.fields]))
+            parts = [Part(field.type, group) for field in self.item.fields]
+            self.parts = with_runs(with_list_inside(parts, group.flats))
             for part, name in zip(self.parts, local_names(self.item.fields, TAKEN_IN_CYCLES)):
                 part.local = name
             self.options = [field.name for field, part in zip(self.item.fields, self.parts) if part.kind == "option"]
@@ -643,7 +646,7 @@ class Shaped:
         self.options = []
         for _, parts in self.variants:
             if len(parts) > 1:
-                with_runs(with_list_inside(parts))
+                with_runs(with_list_inside(parts, group.flats))
             for n, part in enumerate(parts):
                 part.local = f"field{n}"
 
@@ -736,12 +739,25 @@ class Fields:
                 kinds.setdefault(part.kind, field)
                 if part.kind == "option" and not isinstance(item, Struct):
                     raise Refused(field.line, IN_A_STRUCT)
+        if item.name in self.named and not isinstance(item, Struct):
+            self.refuse_signed(item, told)
         if isinstance(item, Struct) and {"option", "map"} <= {*kinds}:
             told.fault(
                 kinds["map"].type.line,
                 "a struct with an option and a map of itself is not supported: for the option, write an enum of your"
                 f" own with the variants `None` and `Some(Box<{self.named[item.name].of}>)`",
             )
+
+    def refuse_signed(self, item, told):
+        """Refuses signed numbers in variants beside values of the group: the checker does not prove what reads them."""
+        for variant in item.variants:
+            numbers = [field.type for field in variant.fields if rust(field.type) in SIGNED]
+            if numbers and any(self.mentions(field.type) for field in variant.fields):
+                told.fault(
+                    numbers[0].line,
+                    f"`{numbers[0].name}` beside a type that contains itself is not supported in a variant: put it into"
+                    " a struct of its own",
+                )
 
     def mentions(self, type_):
         return type_.name in self.named and type_.kind == "path" or any(map(self.mentions, type_.parts))
