@@ -4,9 +4,10 @@
     scripts/measure.py [--write] [COMMAND ..]
 
 Without a command it runs `rt ci --anew` and then each script of scripts/checks, one after the other, on an idle
-machine, and with `--write` it writes a run that passed into docs/TESTING.md. With a command it runs that. It prints
-a table of processor and wall minutes, and exits with the worst status that it met. Processor time of a crate is
-that of the checker's processes, looked at twice a second, so the total has a little more than the rows.
+machine, and with `--write` it writes a run that passed into docs/TESTING.md. With a command it runs that, and writes it
+if the command is that of the gate. It prints a table of processor and wall minutes, and exits with the worst status
+that it met. Processor time of a crate is that of the checker's processes, looked at twice a second, so the total has a
+little more than the rows.
 """
 
 import datetime
@@ -21,6 +22,7 @@ import threading
 import time
 
 MARK = "MEASURED_BY"
+GATE = ["rt", "ci", "--anew"]
 TICKS = os.sysconf("SC_CLK_TCK")
 
 
@@ -94,18 +96,19 @@ def crates_table(rows):
 
 
 def last_run(rows, results):
-    """The lines of docs/TESTING.md on a run."""
+    """The lines of docs/TESTING.md on a run, with the crates that took at least three minutes."""
     sums = {}
     for (name, _), seconds in rows.items():
         sums[name] = sums.get(name, 0) + seconds
-    crates = ", ".join(f"`{name}` {minutes(sums[name])}" for name in sorted(sums, key=sums.get, reverse=True))
-    slowest = [result for result in sorted(results[1:], key=lambda result: -result[3]) if result[3] >= 60]
-    scripts = ", ".join(f"`{words.split('/')[-1]}` {minutes(processor)}" for words, _, _, processor in slowest)
-    in_scripts = [minutes(sum(result[at] for result in results[1:])) for at in (3, 2)]
+    dearest = [name for name in sorted(sums, key=sums.get, reverse=True) if sums[name] >= 180]
+    crates = ", ".join(f"`{name}` {minutes(sums[name])}" for name in dearest)
     _, _, wall, processor = results[0]
     text = (f"In the last run from scratch ({cores()}, {model()}), `rt ci` took {minutes(processor)} processor minutes "
-            f"and {minutes(wall)} wall minutes, the scripts {in_scripts[0]} and {in_scripts[1]}. Processor minutes by "
-            f"crate: {crates}. By script: {scripts}.")
+            f"and {minutes(wall)} wall minutes")
+    if results[1:]:
+        in_scripts = [minutes(sum(result[at] for result in results[1:])) for at in (3, 2)]
+        text += f", the scripts {in_scripts[0]} and {in_scripts[1]}"
+    text += f". Processor minutes by crate, from three on: {crates}."
     return "\n".join(textwrap.wrap(text, 120, break_long_words=False, break_on_hyphens=False)) + "\n"
 
 
@@ -138,7 +141,7 @@ def main():
     os.chdir(os.path.join(os.path.dirname(os.path.abspath(__file__)), ".."))
     words = [word for word in sys.argv[1:] if word != "--write"]
     scripts = [["bash", f"scripts/checks/{name}"] for name in sorted(os.listdir("scripts/checks"))]
-    commands = [words] if words else [["rt", "ci", "--anew"], *scripts]
+    commands = [words] if words else [GATE, *scripts]
     os.environ[MARK] = str(os.getpid())
     sampler = Sampler()
     sampler.start()
@@ -153,7 +156,7 @@ def main():
     for command, status, wall, processor in results:
         print(f"| `{command}` | {status} | {minutes(wall)} | {minutes(processor)} |")
     worst = max(status for _, status, _, _ in results)
-    if "--write" in sys.argv and not words and worst == 0:
+    if "--write" in sys.argv and words in ([], GATE) and worst == 0:
         write(last_run(rows, results), results)
     sys.exit(worst)
 
