@@ -419,9 +419,9 @@ def arm(group, shaped, variant, parts):
 
 
 def taken_apart(types, indent):
-    """What takes the fields of `held` apart, and their names. The toolchain does not prove that an array is moved out
-    of a tuple straight into a value."""
-    if not any(type_.kind == "array" for type_ in types):
+    """What takes the fields of `held` apart, and their names. The toolchain does not prove that an array or a `char` is
+    moved out of a tuple straight into a value."""
+    if not any(type_.kind == "array" or type_.name == "char" for type_ in types):
         return "", [f"held.{place}" for place in range(len(types))]
     names = [f"field{place}" for place in range(len(types))]
     return f"{indent}let ({', '.join(names)}) = held;\n", names
