@@ -4,7 +4,7 @@ and one decoder for it, and not those of all that is inside. The toolchain has a
 from string import Template
 
 from declarations import Struct, fields_of
-from known_types import INTEGERS, MOST_FIELDS, TYPES, of_text
+from known_types import INTEGERS, MOST_FIELDS, of_text
 
 # A struct whose fields name no more types than these has no coders of its own, since that costs less to prove: one that
 # no enum and no struct with coders of its own holds, and one that such a type holds.

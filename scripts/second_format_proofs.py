@@ -2,7 +2,7 @@
 
 import re
 
-from second_format import SIGNED, applied, bound_names, data_of, field_in, payload_tree, steps_of, tree_of, trees_of
+from second_format import SIGNED, applied, bound_names, data_of, field_in, steps_of, tree_of, trees_of
 from second_format_flat import answers
 from second_format_containers import (
     FEW_FIELDS,

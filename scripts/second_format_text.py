@@ -2,9 +2,8 @@
 
 import re
 
-from second_format import LIBRARY, MAPS, applied, bound, bound_names, data_of, field_in, payload_tree, sounds, steps_of, trees_of
+from second_format import MAPS, applied, bound, bound_names, data_of, field_in, sounds, steps_of, trees_of
 from second_format_std import TYPES_OF_STD, WORDS_OF_STD
-from declarations import Struct
 from structs import declaration as struct_declaration
 from variants import declaration as enum_declaration
 
